@@ -1,0 +1,5 @@
+pub mod Shifts
+pub mod Sound
+pub mod Gaps
+pub mod Adding
+pub mod Taking

@@ -1,0 +1,31 @@
+// The limits of a log's sum.
+ghost use mathlib.Core.Bool.{true};
+ghost use mathlib.Core.Path.{_≡_};
+ghost use Prim.Native.Nat.{_≤_};
+ghost use Rattle.tables.specs.Log.{spanOf, SharpLimits};
+ghost use Rattle.log.specs.Held.{isLog};
+use super::limits::Limits;
+use tables::Point;
+
+// Adds up gap by gap: below the low limit a gap has its first value throughout, below the high one its last.
+pub(crate) fn limits_of(points: &[Point]) -> Limits
+    requires rises { ⌜ isLog (now points) ≡ true ⌝ }
+    requires short { ⌜ spanOf (now points) ≤ 1000000 ⌝ }
+    ensures { λ r. ⌜ SharpLimits (now (points .entry)) (r .low) (r .high) ⌝ }
+{
+    let mut low = 0;
+    let mut high = 0;
+    let last = points.len() - 1;
+    for i in 0..last {
+        let p = points[i];
+        let q = points[i + 1];
+        let inner = (q.at - p.at - 1) as u64;
+        low += p.value as u64 + inner * p.value as u64;
+        high += p.value as u64 + inner * q.value as u64;
+    }
+    let top = points[last].value as u64;
+    Limits {
+        low: low + top,
+        high: high + top,
+    }
+}

@@ -1,0 +1,7 @@
+pub mod Table
+pub mod Log
+pub mod Least
+pub mod Plan
+pub mod Run
+pub mod Theorems
+pub mod Figures
