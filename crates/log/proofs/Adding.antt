@@ -2,14 +2,17 @@
 use mathlib.Core.Path.{_≡_, refl, sym, ap, subst, _∙_}
 use mathlib.Core.Logic.{⊎-elim}
 use mathlib.Core.List.{List, [], _∷_}
-use Prim.Native.Nat.{ℕ, _+_, _-_, _*_, _^_, _<_, _≤_}
-use native.Mathlib.Nat.{mul-le-mul-left}
+use Prim.Native.Nat.{ℕ, _+_, _-_, _*_, _/_, _^_, _<_, _≤_}
+use native.Mathlib.Nat.{mul-le-mul-left, mul-le-mul-right, div-mul-le-self}
 use native.Mathlib.Omega.{arith}
 use lib.ListN.{length, getD, drop}
 use Rattle.std.proofs.shelf.Lists.{drop-more, drop-all}
+use Rattle.std.proofs.shelf.Bits.{mul-le}
 use Rattle.std.proofs.shelf.Tests.{cases-lt}
 use Rattle.tables.specs.declared.points.Point.{Point}
 use Rattle.tables.specs.Log.{IsLog, spanOf, innerOf, low, high, SharpLimits}
+use Rattle.tables.specs.Least.{leastWidth}
+use Rattle.tables.proofs.LeastWidth.{least-le-square}
 use Rattle.tables.proofs.Limits.{limits-are-sharp}
 use Rattle.log.specs.Fits.{origin}
 use Rattle.log.proofs.Gaps.{rises-by-place, span-at-end}
@@ -83,3 +86,11 @@ sharp-limits log is lo hi e f = record {
       let both = limits-are-sharp (spanOf log) log is y in
       (λ w. both .0 (omega arith, omega arith), λ p. let w = both .1 p in (omega arith, omega arith));
 }
+
+-- c × D is at most (c × span) × span, so at most the rise times the span
+pub promise-fits : (rise span k d : ℕ) → d ≡ leastWidth span k → rise < 2 ^ 32 → span ≤ 1000000 → rise / span * d < 2 ^ 64
+promise-fits rise span k d is h short =
+    rw is (over (rise / span) (leastWidth span k) (least-le-square span k) (div-mul-le-self rise span))
+  where
+    over : (c l : ℕ) → l ≤ span * span → c * span ≤ rise → c * l < 2 ^ 64
+    over c l e f = omega (arith, mul-le-mul-left c e, mul-le-mul-right span f, mul-le rise span (2 ^ 32) 1000000 (omega arith) short)

@@ -13,7 +13,7 @@ use Rattle.std.proofs.shelf.Lists.{getD-default}
 use Rattle.std.proofs.shelf.Tests.{cases-lt, lt-ltb, le-ltb, le-leb, lt-leb, eq-eqb, ne-eqb, cond-true, cond-false, true≢false}
 use Rattle.std.proofs.shelf.Ways.{tells}
 use Rattle.tables.specs.declared.points.Point.{Point}
-use Rattle.tables.specs.Log.{Rising, lastOf, IsLog, spanOf, has, insert, lowTable, highTable}
+use Rattle.tables.specs.Log.{Rising, lastOf, IsLog, spanOf, firstValue, lastValue, has, insert, lowTable, highTable}
 use Rattle.tables.specs.Table.{Inner}
 use Rattle.tables.proofs.Inserts.{insert-is-log, insert-length, insert-span}
 use Rattle.log.specs.Fits.{place, origin, Beside, Goes}
@@ -188,6 +188,17 @@ last-at-end p (q ∷ ps) d =
 pub span-at-end : (log : List Point) (d : Point) → IsLog (spanOf log) log → getD log (length log - 1) d .at ≡ spanOf log
 span-at-end [] d is = absurd is
 span-at-end (p ∷ ps) d is = ap (λ (q : Point). q .at) (last-at-end p ps d)
+
+value-le-last : (p : Point) (ps : List Point) → Rising p ps → p .value ≤ lastOf p ps .value
+value-le-last p [] r = omega arith
+value-le-last p (q ∷ ps) r = omega (arith, value-le-last q ps (r .2))
+
+-- the end values of a log stand at its first and last place
+pub ends-at : (log : List Point) → IsLog (spanOf log) log → (getD log 0 origin .value ≡ firstValue log) × (getD log (length log - 1) origin .value ≡ lastValue log) × (getD log 0 origin .value ≤ getD log (length log - 1) origin .value)
+ends-at [] is = absurd is
+ends-at (p ∷ ps) is =
+    let last = ap (λ (q : Point). q .value) (last-at-end p ps origin) in
+    (refl, last, omega (arith, last, value-le-last p ps (is .2)))
 
 -- a point that does not misfit goes in at its place
 pub goes : (log : List Point) (p : Point) → isLog log ≡ true → Inner (spanOf log) (p .at) → has (p .at) log ≡ false → length log < 256 → lowTable log (p .at) ≤ p .value → p .value ≤ highTable log (p .at) → Goes log p (place (p .at) log)

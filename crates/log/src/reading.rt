@@ -2,13 +2,16 @@
 ghost use mathlib.Core.Path.{_≡_};
 ghost use Prim.Native.Nat.{_-_};
 ghost use lib.ListN.{length};
-ghost use Rattle.tables.specs.Log.{spanOf, has, SharpLimits};
+ghost use Rattle.tables.specs.Log.{spanOf, firstValue, lastValue, has, SharpLimits};
+ghost use Rattle.tables.specs.Theorems.{promise};
 ghost use Rattle.log.specs.Points.{points};
 use super::limits::Limits;
 use super::logs::Log;
+use super::search::ends_of;
 use super::search::has_at;
 use super::search::span_of;
 use super::sums::limits_of;
+use super::sums::promised;
 use tables::Point;
 
 impl Log {
@@ -24,6 +27,20 @@ impl Log {
         ensures { λ r. ⌜ r ≡ spanOf (points (now (self .entry))) ⌝ }
     {
         span_of(self.places.shown())
+    }
+
+    // The value at argument 0.
+    pub fn first(&self) -> u32
+        ensures { λ r. ⌜ r ≡ firstValue (points (now (self .entry))) ⌝ }
+    {
+        ends_of(self.places.shown()).0
+    }
+
+    // The value at the last argument.
+    pub fn last(&self) -> u32
+        ensures { λ r. ⌜ r ≡ lastValue (points (now (self .entry))) ⌝ }
+    {
+        ends_of(self.places.shown()).1
     }
 
     // Whether the argument is that of a point.
@@ -45,5 +62,15 @@ impl Log {
         ensures { λ r. ⌜ SharpLimits (points (now (self .entry))) (r .low) (r .high) ⌝ }
     {
         limits_of(self.places.shown())
+    }
+
+    // The width that no plan with as many answers undercuts on every table between the same ends.
+    pub fn promise(&self) -> u64
+        ensures { λ r. ⌜ r ≡ promise (spanOf (points (now (self .entry)))) (firstValue (points (now (self .entry)))) (lastValue (points (now (self .entry)))) (length (points (now (self .entry))) - 2) ⌝ }
+    {
+        let points = self.places.shown();
+        let (first, last) = ends_of(points);
+        let span = span_of(points);
+        promised(span, last - first, points.len().saturating_sub(2))
     }
 }

@@ -1,9 +1,10 @@
 // Where an argument belongs in a log.
 ghost use mathlib.Core.Bool.{true};
 ghost use mathlib.Core.Path.{_≡_};
+ghost use Prim.Native.Nat.{_≤_};
 ghost use Rattle.std.specs.Vec.{made};
 ghost use Rattle.denials.specs.Checks.{Decided};
-ghost use Rattle.tables.specs.Log.{spanOf, has};
+ghost use Rattle.tables.specs.Log.{spanOf, firstValue, lastValue, has};
 ghost use Rattle.log.specs.Held.{isLog};
 ghost use Rattle.log.specs.Fits.{place, misfit, Beside, Goes};
 use super::misfits::Misfit;
@@ -34,6 +35,14 @@ pub(crate) fn span_of(points: &[Point]) -> u32
     ensures { λ r. ⌜ r ≡ spanOf (now (points .entry)) ⌝ }
 {
     points[points.len() - 1].at
+}
+
+// The values at both ends of a log.
+pub(crate) fn ends_of(points: &[Point]) -> (u32, u32)
+    requires { ⌜ isLog (now points) ≡ true ⌝ }
+    ensures { λ r. ⌜ (r .0 ≡ firstValue (now (points .entry))) × (r .1 ≡ lastValue (now (points .entry))) × (r .0 ≤ r .1) ⌝ }
+{
+    (points[0].value, points[points.len() - 1].value)
 }
 
 // Whether an argument is that of a point of a log.

@@ -1,11 +1,13 @@
 // The limits of a log's sum.
 ghost use mathlib.Core.Bool.{true};
 ghost use mathlib.Core.Path.{_≡_};
-ghost use Prim.Native.Nat.{_≤_};
+ghost use Prim.Native.Nat.{_*_, _/_, _<_, _≤_};
+ghost use Rattle.tables.specs.Least.{leastWidth};
 ghost use Rattle.tables.specs.Log.{spanOf, SharpLimits};
 ghost use Rattle.log.specs.Held.{isLog};
 use super::limits::Limits;
 use tables::Point;
+use tables::least_width;
 
 // Adds up gap by gap: below the low limit a gap has its first value throughout, below the high one its last.
 pub(crate) fn limits_of(points: &[Point]) -> Limits
@@ -28,4 +30,14 @@ pub(crate) fn limits_of(points: &[Point]) -> Limits
         low: low + top,
         high: high + top,
     }
+}
+
+// The steepest even rise over the span, times the least width that as many answers can leave.
+pub(crate) fn promised(span: u32, rise: u32, answers: usize) -> u64
+    requires some { ⌜ 0 < span ⌝ }
+    requires short { ⌜ span ≤ 1000000 ⌝ }
+    requires few { ⌜ answers ≤ 256 ⌝ }
+    ensures { λ r. ⌜ r ≡ rise / span * leastWidth span answers ⌝ }
+{
+    (rise / span) as u64 * least_width(span, answers as u32)
 }

@@ -12,8 +12,7 @@ use Rattle.tables.specs.declared.points.Point.{Point}
 use Rattle.tables.specs.Least.{leastWidth, Positive, total, unevenness, Cuts}
 use Rattle.tables.specs.Log.{Rising, lastOf, IsLog, Agrees, gapWidths}
 use Rattle.tables.specs.Table.{diagonal}
-use Rattle.tables.specs.Theorems.{LeastIsLeast, DiagonalFloor}
-use Rattle.tables.proofs.Limits.{width-is-gaps}
+use Rattle.tables.specs.Theorems.{LeastIsLeast}
 
 -- one less than a successor
 pred-suc : (m : ℕ) → suc m - 1 ≡ m
@@ -89,7 +88,7 @@ module _ (n k : ℕ) where
   least-even = rw (adds-up, all-counted) at (split-even shorter longer-count shorter-count)
 
   -- no row of k + 1 lengths that add up to n has less than the least width
-  least-bound : (ls : List ℕ) → length ls ≡ k + 1 → total ls ≡ n → leastWidth n k ≤ unevenness ls
+  pub least-bound : (ls : List ℕ) → length ls ≡ k + 1 → total ls ≡ n → leastWidth n k ≤ unevenness ls
   least-bound ls e f = omega (arith, least-even, rw (e, f) at (row-bound shorter ls))
 
   -- an even row has it
@@ -102,14 +101,18 @@ module _ (n k : ℕ) where
     same : (q p r : ℕ) → r ≡ 0 → (k + 1) * q + r ≡ n → r * ((q + 1) * q) + (k + 1 - r) * (q * p) ≡ p * n
     same q p r e f = rw (← f, e, sub-zero) (omega arith)
 
-  -- the least width of a span of 32 bits has 64 bits, since it is at most the span squared
-  pub least-fits : n < 2 ^ 32 → leastWidth n k < 2 ^ 64
-  least-fits h = omega (arith, within, mul-le-mul-left n (div-le-self n (k + 1)), mul-lt n n (2 ^ 32) (2 ^ 32) h h) where
+  -- the least width is at most the span squared
+  pub least-le-square : leastWidth n k ≤ n * n
+  least-le-square = omega (arith, within, mul-le-mul-left n (div-le-self n (k + 1))) where
     small : (q p r d : ℕ) → p ≤ q → r * ((q + 1) * q) + d * (q * p) ≤ ((r + d) * q + r) * q
     small q p r d h = omega (arith, mul-le-mul-left d (mul-le-mul-left q h))
 
     within : leastWidth n k ≤ n * shorter
     within = rw adds-up at (small shorter (shorter - 1) longer-count shorter-count (omega arith))
+
+  -- so that of a span of 32 bits has 64 bits
+  pub least-fits : n < 2 ^ 32 → leastWidth n k < 2 ^ 64
+  least-fits h = omega (arith, least-le-square, mul-lt n n (2 ^ 32) (2 ^ 32) h h)
 
 -- r lengths q + 1 and d lengths q make an even row
 even-row : (q r d : ℕ) → 0 < q → (ls : List ℕ) × (length ls ≡ r + d) × Positive ls × (total ls ≡ (r + d) * q + r) × Even q ls
@@ -168,11 +171,3 @@ diagonal-gaps c p (q ∷ ps) h a =
   where
     step : (l m w u : ℕ) → w ≡ c * u → m * (c * l) + w ≡ c * (l * m + u)
     step l m w u e = omega arith
-
--- so a log on the diagonal has at least c times the least width
-pub diagonal-floor : DiagonalFloor
-diagonal-floor c n k [] h a e = elim h [ ]
-diagonal-floor c n k (p ∷ ps) h a e =
-    let cut = lengths-cut n k (p ∷ ps) h e in
-    let bound = least-bound n k (gap-lengths (p ∷ ps)) (cut .0) (cut .2) in
-    rw (width-is-gaps n (p ∷ ps) h .1, diagonal-gaps c p ps (h .2) a) (mul-le-mul-left c bound)

@@ -5,4 +5,5 @@ pub mod Inserts
 pub mod Runs
 pub mod Unknown
 pub mod Stops
+pub mod Steep
 pub mod Spacing

@@ -13,7 +13,7 @@ use Rattle.tables.specs.Theorems.{WidthIsGaps, LimitsAreSharp, TablesOfLog}
 use Rattle.tables.proofs.Sums.{sum-le, Joined, join, joined, joined-never-falls, joined-sum}
 
 -- the last argument is not before the first
-at-le-last : (p : Point) (ps : List Point) → Rising p ps → p .at ≤ lastOf p ps .at
+pub at-le-last : (p : Point) (ps : List Point) → Rising p ps → p .at ≤ lastOf p ps .at
 at-le-last p [] r = omega arith
 at-le-last p (q ∷ ps) r = omega (arith, at-le-last q ps (r .2))
 

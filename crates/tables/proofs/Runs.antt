@@ -11,7 +11,7 @@ use Rattle.std.specs.Options.{Cases}
 use Rattle.std.specs.declared.option.Option.{Option}
 use Rattle.std.specs.declared.option.Option.the-variants.{Some, None}
 use Rattle.tables.proofs.Inserts.{insert-length, has-new, has-still, insert-agrees, agrees-insert, insert-is-log}
-use Rattle.tables.proofs.Limits.{between}
+use Rattle.tables.proofs.Limits.{at-le-last, between}
 use Rattle.tables.specs.declared.points.Point.{Point}
 use Rattle.tables.specs.Log.{Rising, lastOf, IsLog, Agrees, has, insert, fresh}
 use Rattle.tables.specs.Plan.{Plan, Lawful, AllKnown}
@@ -69,11 +69,6 @@ none-before : (x : ℕ) (p : Point) (ps : List Point) → Rising p ps → x < p 
 none-before x p [] h k = rw (ne-eqb x (p .at) (omega arith))
 none-before x p (q ∷ qs) h k = rw (ne-eqb x (p .at) (omega arith)) (none-before x q qs (h .2) (omega arith))
 
--- in points that rise the last argument is not below the first
-first-to-last : (p : Point) (ps : List Point) → Rising p ps → p .at ≤ lastOf p ps .at
-first-to-last p [] h = omega arith
-first-to-last p (q ∷ qs) h = omega (arith, first-to-last q qs (h .2))
-
 -- an argument that is not p's is in ps where it is in p ∷ ps
 has-later : (x : ℕ) (p : Point) (ps : List Point) → (x ≡ p .at → ⊥) → has x (p ∷ ps) ≡ true → has x ps ≡ true
 has-later x p ps h e = rw (ne-eqb x (p .at) h) at e
@@ -82,7 +77,7 @@ has-later x p ps h e = rw (ne-eqb x (p .at) h) at e
 next-near : (p q : Point) (qs : List Point) → Rising q qs → (p .at + 1 < lastOf q qs .at → has (p .at + 1) (q ∷ qs) ≡ true) → q .at ≤ p .at + 1
 next-near p q qs h known =
     ⊎-elim
-    (λ k. absurd (both-ways (has (p .at + 1) (q ∷ qs)) (none-before (p .at + 1) q qs h k) (known (omega (arith, first-to-last q qs h)))))
+    (λ k. absurd (both-ways (has (p .at + 1) (q ∷ qs)) (none-before (p .at + 1) q qs h k) (known (omega (arith, at-le-last q qs h)))))
     (λ k. k)
     (cases-lt (p .at + 1) (q .at))
 

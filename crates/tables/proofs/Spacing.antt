@@ -15,8 +15,9 @@ use Rattle.tables.specs.Plan.{firstUnknown, lowestUnknown, orElse, stops, equa
 use Rattle.tables.specs.Run.{Run, WholeRun, spent, asks}
 use Rattle.tables.specs.Theorems.{ceiling, SpacingIsLawful, SpacingAsksStops, SpacingOnDiagonal, SpacingOnAnyTable, SpacingIsOptimal}
 use Rattle.tables.proofs.Limits.{width-is-gaps}
-use Rattle.tables.proofs.LeastWidth.{gap-lengths, Even, lengths-cut, diagonal-gaps, even-is-least, least-at-multiple, diagonal-floor}
+use Rattle.tables.proofs.LeastWidth.{gap-lengths, Even, lengths-cut, diagonal-gaps, even-is-least, least-at-multiple}
 use Rattle.tables.proofs.Runs.{run-is-unique, lawful-asks-all}
+use Rattle.tables.proofs.Steep.{diagonal-floor}
 use Rattle.tables.proofs.Unknown.{or-else-lawful, first-askable}
 use Rattle.tables.proofs.Stops.{pointOf, spaced, logAt, cutAt, even-step, ceiling-step, cut-climbs, last-spaced, span-at, next-stop, insert-next, lengths-by}
 

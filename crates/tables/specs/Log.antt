@@ -28,6 +28,16 @@ abbrev pub spanOf : List Point → ℕ
 spanOf [] = 0
 spanOf (p ∷ ps) = lastOf p ps .at
 
+-- the value of its first point
+abbrev pub firstValue : List Point → ℕ
+firstValue [] = 0
+firstValue (p ∷ ps) = p .value
+
+-- the value of its last point
+abbrev pub lastValue : List Point → ℕ
+lastValue [] = 0
+lastValue (p ∷ ps) = lastOf p ps .value
+
 -- the log of which only the ends are known
 abbrev pub fresh : ℕ → ℕ → ℕ → List Point
 fresh n a b = record { at = 0; value = a } ∷ record { at = n; value = b } ∷ []

@@ -47,6 +47,14 @@ LeastIsLeast = (n k : ℕ) → k < n → Least n k
 abbrev pub DiagonalFloor : Type 0
 DiagonalFloor = (c n k : ℕ) (log : List Point) → IsLog n log → Agrees (diagonal c) log → length log ≡ k + 2 → c * leastWidth n k ≤ width log
 
+-- the table rises by at least c at every step of the span n
+abbrev pub Climbs : ℕ → Table → ℕ → Type 0
+Climbs c t n = (x : ℕ) → x < n → t x + c ≤ t (x + 1)
+
+-- and so has a log of any table that climbs at least as steeply
+abbrev pub SteepFloor : Type 0
+SteepFloor = (c n k : ℕ) (t : Table) (log : List Point) → IsLog n log → Agrees t log → Climbs c t n → length log ≡ k + 2 → c * leastWidth n k ≤ width log
+
 -- from any log, with any number of questions, a run exists
 abbrev pub RunExists : Type 0
 RunExists = (plan : Plan) (t : Table) (n : ℕ) (log : List Point) → (xs : List ℕ) × (end : List Point) × Run plan t n log xs end
@@ -110,3 +118,13 @@ pub record Optimal (c N n : ℕ) : Type 0 where
 
 abbrev pub SpacingIsOptimal : Type 0
 SpacingIsOptimal = (c N n : ℕ) → n < N → N % (n + 1) ≡ 0 → Optimal c N n
+
+-- what no plan with k questions undercuts on every table from A to B of span N
+abbrev pub promise : ℕ → ℕ → ℕ → ℕ → ℕ
+promise N A B k = (B - A) / N * leastWidth N k
+
+-- whatever the plan, some table between the same ends leaves it at least that wide
+abbrev pub NoPlanPromisesLess : Type 0
+NoPlanPromisesLess =
+    (plan : Plan) → Lawful plan → (N A B k : ℕ) → k < N → A ≤ B
+    → (t : Table) × NeverFalls t 0 N × (t 0 ≡ A) × (t N ≡ B) × ((xs : List ℕ) (end : List Point) → WholeRun plan t N k xs end → promise N A B k ≤ width end)

@@ -10,6 +10,7 @@ pub use theorems::figures_are_right;
 pub use theorems::lawful_asks_all;
 pub use theorems::least_is_least;
 pub use theorems::limits_are_sharp;
+pub use theorems::no_plan_promises_less;
 pub use theorems::runs_are_determined;
 pub use theorems::spacing_is_even;
 pub use theorems::spacing_is_optimal;

@@ -1,6 +1,6 @@
 // The general theorems, each as the contract of a function, so that no crate stands without its proof.
 ghost use Rattle.tables.specs.Figures.{FiguresAreRight};
-ghost use Rattle.tables.specs.Theorems.{WidthIsGaps, LimitsAreSharp, TablesOfLog, LeastIsLeast, DiagonalFloor, RunExists, RunIsUnique, SameRun, LawfulAsksAll, SpacingIsLawful, SpacingAsksStops, SpacingOnDiagonal, SpacingOnAnyTable, SpacingIsOptimal};
+ghost use Rattle.tables.specs.Theorems.{WidthIsGaps, LimitsAreSharp, TablesOfLog, LeastIsLeast, DiagonalFloor, RunExists, RunIsUnique, SameRun, LawfulAsksAll, SpacingIsLawful, SpacingAsksStops, SpacingOnDiagonal, SpacingOnAnyTable, SpacingIsOptimal, SteepFloor, NoPlanPromisesLess};
 
 // High minus low is the sum over the gaps of inner arguments times rise.
 pub fn width_is_gaps()
@@ -22,9 +22,10 @@ pub fn least_is_least()
     ensures { λ _. ⌜ LeastIsLeast ⌝ }
 {}
 
-// On the diagonal no log is narrower than its rise times the least width.
+// On the diagonal no log is narrower than its rise times the least width, nor on any table as steep.
 pub fn diagonal_floor()
-    ensures { λ _. ⌜ DiagonalFloor ⌝ }
+    ensures diagonal { λ _. ⌜ DiagonalFloor ⌝ }
+    ensures steep { λ _. ⌜ SteepFloor ⌝ }
 {}
 
 // A run exists and is unique, and a table that agrees with the log it leaves gets the same run.
@@ -50,6 +51,11 @@ pub fn spacing_is_even()
 // Where the number of parts divides the span, no plan is better than equal spacing.
 pub fn spacing_is_optimal()
     ensures { λ _. ⌜ SpacingIsOptimal ⌝ }
+{}
+
+// Whatever the plan, some table between the same ends leaves it at least what the least width promises.
+pub fn no_plan_promises_less()
+    ensures { λ _. ⌜ NoPlanPromisesLess ⌝ }
 {}
 
 // The worked figures come out of the definitions.
