@@ -8,6 +8,7 @@ use lines::Line;
 use lines::read_line;
 use notes::Notes;
 use std::io;
+use std::io::BufRead;
 use std::io::BufReader;
 use words::SaidDisplay;
 use words::SummaryDisplay;

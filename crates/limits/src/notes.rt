@@ -2,7 +2,7 @@
 ghost use mathlib.Core.Path.{_≡_};
 ghost use mathlib.Core.Bool.{false};
 ghost use Rattle.log.specs.Points.{points};
-ghost use Rattle.limits.specs.Noted.{said, kept, summed};
+ghost use Rattle.limits.specs.Noted.{said, kept, Summed};
 use super::lines::Line;
 use log::BadEnds;
 use log::Log;
@@ -52,8 +52,8 @@ impl Notes {
 
     // Enters one line.
     pub fn enter<'a>(&mut self, line: Line<'a>) -> Said<'a>
-        ensures said { λ r. ⌜ r ≡ said (now (self .entry)) line ⌝ }
-        ensures kept { λ r. ⌜ (now (self .exit) .opened, points (now (self .exit) .log)) ≡ kept (now (self .entry)) r ⌝ }
+        ensures said { λ r. ⌜ r ≡ said (now (self .entry) .opened) (points (now (self .entry) .log)) (line .entry) ⌝ }
+        ensures kept { λ r. ⌜ (now (self .exit) .opened, points (now (self .exit) .log)) ≡ kept (now (self .entry) .opened) (points (now (self .entry) .log)) r ⌝ }
     {
         match line {
             Line::Ends(span, first, last) => self.start(span, first, last),
@@ -64,7 +64,10 @@ impl Notes {
         }
     }
 
-    fn start<'a>(&mut self, span: u32, first: u32, last: u32) -> Said<'a> {
+    fn start<'a>(&mut self, span: u32, first: u32, last: u32) -> Said<'a>
+        ensures said { λ r. ⌜ r ≡ said (now (self .entry) .opened) (points (now (self .entry) .log)) (Line.Ends span first last) ⌝ }
+        ensures kept { λ r. ⌜ (now (self .exit) .opened, points (now (self .exit) .log)) ≡ kept (now (self .entry) .opened) (points (now (self .entry) .log)) r ⌝ }
+    {
         if self.opened {
             return Said::OpenedBefore;
         }
@@ -77,7 +80,10 @@ impl Notes {
         }
     }
 
-    fn take_in<'a>(&mut self, at: u32, value: u32) -> Said<'a> {
+    fn take_in<'a>(&mut self, at: u32, value: u32) -> Said<'a>
+        ensures said { λ r. ⌜ r ≡ said (now (self .entry) .opened) (points (now (self .entry) .log)) (Line.Answer at value) ⌝ }
+        ensures kept { λ r. ⌜ (now (self .exit) .opened, points (now (self .exit) .log)) ≡ kept (now (self .entry) .opened) (points (now (self .entry) .log)) r ⌝ }
+    {
         if !self.opened {
             return Said::NotOpened;
         }
@@ -88,7 +94,9 @@ impl Notes {
     }
 
     // The limits that the answers set, where the ends are known.
-    pub fn summary(&self) -> Summary {
+    pub fn summary(&self) -> Summary
+        ensures { λ r. ⌜ Summed (now (self .entry) .opened) (points (now (self .entry) .log)) r ⌝ }
+    {
         if !self.opened {
             return Summary::Nothing;
         }
