@@ -1,4 +1,6 @@
 // One line of input, as numbers.
+ghost use mathlib.Core.Path.{_≡_};
+ghost use Rattle.limits.specs.Lines.{isBlank, Counted};
 
 // What a line holds.
 #[derive(Clone, Copy)]
@@ -15,13 +17,18 @@ pub enum Line<'a> {
 }
 
 impl Line<'_> {
-    pub fn is_blank(&self) -> bool {
+    // Whether there is nothing to enter.
+    pub fn is_blank(&self) -> bool
+        ensures { λ r. ⌜ r ≡ isBlank (now (self .entry)) ⌝ }
+    {
         matches!(self, Line::Blank)
     }
 }
 
 // Reads a line; a word that begins with `#` ends it.
-pub fn read_line(text: &str) -> Line<'_> {
+pub fn read_line(text: &str) -> Line<'_>
+    ensures { λ r. ⌜ Counted r ⌝ }
+{
     let mut found = [0u32; 3];
     let mut count = 0usize;
     for word in text.split_whitespace() {

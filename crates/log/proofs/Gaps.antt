@@ -189,7 +189,8 @@ pub span-at-end : (log : List Point) (d : Point) → IsLog (spanOf log) log → 
 span-at-end [] d is = absurd is
 span-at-end (p ∷ ps) d is = ap (λ (q : Point). q .at) (last-at-end p ps d)
 
-value-le-last : (p : Point) (ps : List Point) → Rising p ps → p .value ≤ lastOf p ps .value
+-- no value is above the last
+pub value-le-last : (p : Point) (ps : List Point) → Rising p ps → p .value ≤ lastOf p ps .value
 value-le-last p [] r = omega arith
 value-le-last p (q ∷ ps) r = omega (arith, value-le-last q ps (r .2))
 

@@ -3,3 +3,4 @@ pub mod Sound
 pub mod Gaps
 pub mod Adding
 pub mod Taking
+pub mod Filling

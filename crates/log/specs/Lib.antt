@@ -1,3 +1,4 @@
 pub mod Held
 pub mod Points
 pub mod Fits
+pub mod Buffers

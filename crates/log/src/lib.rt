@@ -1,4 +1,5 @@
 // The log of a readout: the points known so far, in fixed memory, and the limits that they set.
+mod buffers;
 mod limits;
 mod logs;
 mod misfits;

@@ -33,6 +33,13 @@ impl Diagonal {
         }
         Ok(Diagonal { span, rise })
     }
+
+    // How much the table rises at every step.
+    pub fn rise(&self) -> u32
+        ensures { λ r. ⌜ r ≡ now (self .entry) .rise ⌝ }
+    {
+        self.rise
+    }
 }
 
 pub impl Logger for Diagonal as DiagonalIsLogger {

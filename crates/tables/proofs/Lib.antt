@@ -7,3 +7,4 @@ pub mod Unknown
 pub mod Stops
 pub mod Steep
 pub mod Spacing
+pub mod Benching

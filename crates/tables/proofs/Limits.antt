@@ -65,7 +65,7 @@ abbrev Squeezed : Table → Table → Table → ℕ → ℕ → Type 0
 Squeezed f t g a b = (x : ℕ) → a ≤ x → x ≤ b → (f x ≤ t x) × (t x ≤ g x)
 
 -- a table squeezed between two that agree with a log agrees with it
-squeezed-agrees :
+pub squeezed-agrees :
     (f t g : Table) (p : Point) (ps : List Point) → Rising p ps → Squeezed f t g (p .at) (lastOf p ps .at) →
     Agrees f (p ∷ ps) → Agrees g (p ∷ ps) → Agrees t (p ∷ ps)
 squeezed-agrees f t g p [] r s af ag = (omega (arith, s (p .at) (omega arith) (omega arith)), tt)

@@ -1,8 +1,8 @@
--- Equal spacing: it is lawful, asks its stops, and no plan does better where the parts are equal. Assumes nothing.
+-- Equal spacing: it is lawful, asks its stops, and how wide a log it leaves. Assumes nothing.
 use mathlib.Core.Path.{_≡_, ap, subst, _∙_}
 use mathlib.Core.List.{List, [], _∷_, map}
-use Prim.Native.Nat.{ℕ, zero, suc, _+_, _-_, _*_, _/_, _%_, _<_, _≤_}
-use native.Mathlib.Nat.{zero-add, sub-zero, mul-sub, mul-left-comm, mul-le-mul-left, mul-le-mul-right, div-add-mod, div-eq-of-lt-le}
+use Prim.Native.Nat.{ℕ, zero, suc, _+_, _-_, _*_, _/_, _<_, _≤_}
+use native.Mathlib.Nat.{zero-add, mul-sub, mul-le-mul-left, mul-le-mul-right}
 use native.Mathlib.Omega.{arith}
 use Rattle.std.specs.Iters.{counting}
 use Rattle.std.specs.shelf.Lists.{All}
@@ -10,14 +10,13 @@ use Rattle.std.specs.declared.option.Option.the-variants.{Some}
 use Rattle.tables.specs.declared.points.Point.{Point}
 use Rattle.tables.specs.Table.{Table, NeverFalls, diagonal}
 use Rattle.tables.specs.Log.{Rising, lastOf, IsLog, spanOf, fresh, Agrees, innerOf, width, gapWidths}
-use Rattle.tables.specs.Least.{leastWidth, unevenness}
+use Rattle.tables.specs.Least.{unevenness}
 use Rattle.tables.specs.Plan.{firstUnknown, lowestUnknown, orElse, stops, equalSpacing}
 use Rattle.tables.specs.Run.{Run, WholeRun, spent, asks}
-use Rattle.tables.specs.Theorems.{ceiling, SpacingIsLawful, SpacingAsksStops, SpacingOnDiagonal, SpacingOnAnyTable, SpacingIsOptimal}
+use Rattle.tables.specs.Theorems.{ceiling, SpacingIsLawful, SpacingAsksStops, SpacingOnDiagonal, SpacingOnAnyTable}
 use Rattle.tables.proofs.Limits.{width-is-gaps}
-use Rattle.tables.proofs.LeastWidth.{gap-lengths, Even, lengths-cut, diagonal-gaps, even-is-least, least-at-multiple}
+use Rattle.tables.proofs.LeastWidth.{gap-lengths, Even, lengths-cut, diagonal-gaps, even-is-least}
 use Rattle.tables.proofs.Runs.{run-is-unique, lawful-asks-all}
-use Rattle.tables.proofs.Steep.{diagonal-floor}
 use Rattle.tables.proofs.Unknown.{or-else-lawful, first-askable}
 use Rattle.tables.proofs.Stops.{pointOf, spaced, logAt, cutAt, even-step, ceiling-step, cut-climbs, last-spaced, span-at, next-stop, insert-next, lengths-by}
 
@@ -58,7 +57,7 @@ pub spacing-asks-stops : SpacingAsksStops
 spacing-asks-stops t N n fits xs end run = whole-run t N n fits xs end run .0
 
 -- the diagonal never falls
-diagonal-climbs : (c N : ℕ) → NeverFalls (diagonal c) 0 N
+pub diagonal-climbs : (c N : ℕ) → NeverFalls (diagonal c) 0 N
 diagonal-climbs c N i j _ h _ = mul-le-mul-left c h
 
 -- on the diagonal the width of a log is c times the unevenness of its lengths
@@ -110,22 +109,3 @@ spacing-on-any-table t N n falls fits xs end run =
     let log = lawful-asks-all (equalSpacing n) (spacing-is-lawful n) t N n falls fits xs end run .isLog in
     let same = whole-run t N n fits xs end run .1 in
     rw (width-is-gaps N end log .1, same) (spacing-gaps t N n fits (rw same at log))
-
--- the ceiling of an exact quotient is the quotient
-ceiling-exact : (N k : ℕ) → 0 < k → N % k ≡ 0 → ceiling N k ≡ N / k
-ceiling-exact N k h e = div-eq-of-lt-le k (omega (arith, div-add-mod N k)) (omega (arith, div-add-mod N k))
-
--- so the bound on any table from 0 to c × N is c times the least width
-exact-bound : (c N n : ℕ) → N % (n + 1) ≡ 0 → (ceiling N (n + 1) - 1) * (c * N - 0) ≡ c * leastWidth N n
-exact-bound c N n e = rw (ceiling-exact N (n + 1) (omega arith) e, least-at-multiple N n e, sub-zero) (mul-left-comm (N / (n + 1) - 1) c N)
-
--- where n + 1 divides N no plan is better
-pub spacing-is-optimal : SpacingIsOptimal
-spacing-is-optimal c N n fits even = record {
-  spacing = λ t falls bottom top xs end run.
-      let most = spacing-on-any-table t N n falls fits xs end run in
-      rw (← exact-bound c N n even) (rw (top, bottom) at most);
-  floor = λ plan lawful xs end run.
-      let asked = lawful-asks-all plan lawful (diagonal c) N n (diagonal-climbs c N) fits xs end run in
-      diagonal-floor c N n end (asked .isLog) (asked .agrees) (asked .points);
-}

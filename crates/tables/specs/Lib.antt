@@ -4,4 +4,5 @@ pub mod Least
 pub mod Plan
 pub mod Run
 pub mod Theorems
+pub mod Bench
 pub mod Figures

@@ -3,7 +3,7 @@ use mathlib.Core.Path.{_≡_}
 use mathlib.Core.Logic.{_↔_}
 use mathlib.Core.Bool.{Bool, true, false, cond}
 use mathlib.Core.List.{List, [], _∷_}
-use Prim.Native.Nat.{ℕ, _+_, _-_, _*_, _/_, _%_, _<_, _≤_}
+use Prim.Native.Nat.{ℕ, _+_, _-_, _*_, _/_, _<_, _≤_}
 use lib.Dec.{eqb}
 use lib.ListN.{length}
 use Rattle.tables.specs.declared.points.Point.{Point}
@@ -108,16 +108,6 @@ ceiling a b = (a + (b - 1)) / b
 -- and on any table at most (ceiling of N / (n + 1), minus 1) times the rise between its ends
 abbrev pub SpacingOnAnyTable : Type 0
 SpacingOnAnyTable = (t : Table) (N n : ℕ) → NeverFalls t 0 N → n < N → (xs : List ℕ) (end : List Point) → WholeRun (equalSpacing n) t N n xs end → width end ≤ (ceiling N (n + 1) - 1) * (t N - t 0)
-
--- where n + 1 divides N, no plan with n questions is better than equal spacing
-pub record Optimal (c N n : ℕ) : Type 0 where
-  -- equal spacing leaves at most c times the least width on every table from 0 to c × N
-  pub spacing : (t : Table) → NeverFalls t 0 N → t 0 ≡ 0 → t N ≡ c * N → (xs : List ℕ) (end : List Point) → WholeRun (equalSpacing n) t N n xs end → width end ≤ c * leastWidth N n
-  -- every lawful plan leaves at least that on the diagonal
-  pub floor : (plan : Plan) → Lawful plan → (xs : List ℕ) (end : List Point) → WholeRun plan (diagonal c) N n xs end → c * leastWidth N n ≤ width end
-
-abbrev pub SpacingIsOptimal : Type 0
-SpacingIsOptimal = (c N n : ℕ) → n < N → N % (n + 1) ≡ 0 → Optimal c N n
 
 -- what no plan with k questions undercuts on every table from A to B of span N
 abbrev pub promise : ℕ → ℕ → ℕ → ℕ → ℕ

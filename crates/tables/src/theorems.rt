@@ -1,6 +1,7 @@
 // The general theorems, each as the contract of a function, so that no crate stands without its proof.
+ghost use Rattle.tables.specs.Bench.{Bench, Optimum};
 ghost use Rattle.tables.specs.Figures.{FiguresAreRight};
-ghost use Rattle.tables.specs.Theorems.{WidthIsGaps, LimitsAreSharp, TablesOfLog, LeastIsLeast, DiagonalFloor, RunExists, RunIsUnique, SameRun, LawfulAsksAll, SpacingIsLawful, SpacingAsksStops, SpacingOnDiagonal, SpacingOnAnyTable, SpacingIsOptimal, SteepFloor, NoPlanPromisesLess};
+ghost use Rattle.tables.specs.Theorems.{WidthIsGaps, LimitsAreSharp, TablesOfLog, LeastIsLeast, DiagonalFloor, RunExists, RunIsUnique, SameRun, LawfulAsksAll, SpacingIsLawful, SpacingAsksStops, SpacingOnDiagonal, SpacingOnAnyTable, SteepFloor, NoPlanPromisesLess};
 
 // High minus low is the sum over the gaps of inner arguments times rise.
 pub fn width_is_gaps()
@@ -48,9 +49,10 @@ pub fn spacing_is_even()
     ensures any { λ _. ⌜ SpacingOnAnyTable ⌝ }
 {}
 
-// Where the number of parts divides the span, no plan is better than equal spacing.
-pub fn spacing_is_optimal()
-    ensures { λ _. ⌜ SpacingIsOptimal ⌝ }
+// What a plan's run on the diagonal shows of every other logger, and which plan is best.
+pub fn bench_is_fair()
+    ensures bench { λ _. ⌜ Bench ⌝ }
+    ensures optimum { λ _. ⌜ Optimum ⌝ }
 {}
 
 // Whatever the plan, some table between the same ends leaves it at least what the least width promises.

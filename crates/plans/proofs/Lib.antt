@@ -1,0 +1,4 @@
+pub mod Neighbours
+pub mod Widening
+pub mod Lowest
+pub mod Cuts

@@ -1,0 +1,4 @@
+pub mod Gaps
+pub mod Widest
+pub mod Meanings
+pub mod Lawful
