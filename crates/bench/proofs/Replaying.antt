@@ -40,8 +40,7 @@ two-steps :
     stepped v e ≡ (v₁, o₁) → stepped v₁ f ≡ (v₂, o₂) → accepted o₁ ≡ true → accepted o₂ ≡ true → NoneDenied (past v₂ es) →
     (after v (e ∷ f ∷ es) ≡ after v₂ es) × NoneDenied (past v (e ∷ f ∷ es))
 two-steps v e f es v₁ v₂ o₁ o₂ s₁ s₂ a₁ a₂ rest =
-    let both : stepped (stepped v e .0) f ≡ (v₂, o₂) = ap (λ (p : View × Outcome). stepped (p .0) f) s₁ ∙ s₂ in
-    (
+    let both : stepped (stepped v e .0) f ≡ (v₂, o₂) = ap (λ (p : View × Outcome). stepped (p .0) f) s₁ ∙ s₂ in (
       ap (λ (p : View × Outcome). after (p .0) es) both,
       (ap (λ (p : View × Outcome). accepted (p .1)) s₁ ∙ a₁, (ap (λ (p : View × Outcome). accepted (p .1)) both ∙ a₂, subst (λ (p : View × Outcome). NoneDenied (past (p .0) es)) (sym both) rest)),
     )
@@ -68,8 +67,7 @@ replay plan lawful t N rises m is agrees (asks {n = n} {x = x} {log = log} {end 
     let v = resting log (suc n) m in
     let ready : Ready t N v x = record { rests = refl; left = omega arith; isLog = is; agrees = agrees; inner = law .0; new = law .1 } in
     let down : suc n - 1 ≡ n = omega arith in
-    let one = one-asked t N rises v x xs ready (subst (λ k. NoneDenied (past (resting (insert (record { at = x; value = t x }) log) k m) (askings t m xs))) (sym down) (rest .1)) in
-    (
+    let one = one-asked t N rises v x xs ready (subst (λ k. NoneDenied (past (resting (insert (record { at = x; value = t x }) log) k m) (askings t m xs))) (sym down) (rest .1)) in (
       one .0 ∙ ap (λ k. after (resting (insert (record { at = x; value = t x }) log) k m) (askings t m xs)) down ∙ rest .0 ∙ ap (λ k. resting stop k m) {x = n - length xs} {y = suc n - suc (length xs)} (omega arith),
       one .1,
     )

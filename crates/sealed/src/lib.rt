@@ -15,11 +15,24 @@ pub use tables::Point;
 pub use tables::least_width;
 
 // loggers, by the tables that they mean
+pub use counters::ClimateLevel;
+pub use counters::ClimateReading;
+pub use counters::Counter;
+pub use counters::CounterIsLogger;
+pub use counters::Level;
+pub use counters::SupplyLevel;
+pub use counters::SupplyReading;
 pub use loggers::Diagonal;
 pub use loggers::DiagonalIsLogger;
 pub use loggers::Logger;
 pub use loggers::TableIsLogger;
 pub use loggers::TableLogger;
+pub use strips::DoorStrip;
+pub use strips::StripIsLogger;
+pub use windows::Turned;
+pub use windows::TurnedIsLogger;
+pub use windows::Window;
+pub use windows::WindowIsLogger;
 
 // plans, by the functions that they mean
 pub use plans::EqualSpacing;

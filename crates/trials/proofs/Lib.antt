@@ -1,0 +1,3 @@
+pub mod Trying
+pub mod Looking
+pub mod Matching
