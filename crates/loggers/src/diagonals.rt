@@ -38,7 +38,7 @@ impl Diagonal {
     pub fn rise(&self) -> u32
         ensures { λ r. ⌜ r ≡ now (self .entry) .rise ⌝ }
     {
-        self.rise
+        self.rise // at every step
     }
 }
 

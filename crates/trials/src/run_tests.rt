@@ -1,4 +1,8 @@
 // Runs of both plans on both loggers, and what a run is denied for.
+use crate::looks::LookDebug;
+use crate::looks::LookPartialEq;
+use crate::looks::look_at;
+use crate::looks::same_points;
 use bench::Line;
 use bench::run;
 use denials::DenialDebug;
@@ -46,12 +50,14 @@ fn an_awake_line_is_denied() -> Result<(), Fail> {
     let mut plan = EqualSpacing::new(3)?;
     let mut line = Line { awake: true };
     let mut place = Readout::new();
+    let before = look_at(&place);
     match run(&diagonal, &mut plan, 300, 7, &mut line, &mut place) {
         Ok(_) => return Err(Fail::new("the line was awake")),
         Err(denial) => check_eq(denial.number(), 16)?,
     }
     check_eq(line.awake, true)?;
-    check_eq(place.log().span(), 1)
+    check_eq(look_at(&place), before)?;
+    check(same_points(place.log().points(), &[(0, 0), (1, 0)]))
 }
 
 #[test]
@@ -60,12 +66,14 @@ fn a_budget_above_the_inner_arguments_is_denied() -> Result<(), Fail> {
     let mut plan = EqualSpacing::new(3)?;
     let mut line = Line::asleep();
     let mut place = Readout::new();
+    let before = look_at(&place);
     match run(&diagonal, &mut plan, 12, 7, &mut line, &mut place) {
         Ok(_) => return Err(Fail::new("the budget was too large")),
         Err(denial) => check_eq(denial.number(), 3)?,
     }
     check_eq(line.awake, false)?;
-    check_eq(place.log().span(), 1)
+    check_eq(look_at(&place), before)?;
+    check(same_points(place.log().points(), &[(0, 0), (1, 0)]))
 }
 
 // The width that each plan leaves with two questions on the table 0 0 0 0 9.

@@ -19,11 +19,17 @@ fn spacing_meets_the_least_width() -> Result<(), Fail> {
     check_eq(high, [0, 9, 9, 9, 18, 18, 18, 27, 27, 27, 36, 36, 36, 7, 7])
 }
 
-fn denied(span: u32, rise: u32, budget: u32, low_len: usize) -> Result<Denial, Fail> {
+fn denied(
+    span: u32,
+    rise: u32,
+    budget: u32,
+    low_len: usize,
+    high_len: usize,
+) -> Result<Denial, Fail> {
     let mut plan = EqualSpacing::new(3)?;
     let mut low = [7u32; 13];
     let mut high = [7u32; 13];
-    if low_len > 13 {
+    if low_len > 13 || high_len > 13 {
         return Err(Fail::new("a row of at most 13 places"));
     }
     match score(
@@ -32,7 +38,7 @@ fn denied(span: u32, rise: u32, budget: u32, low_len: usize) -> Result<Denial, F
         rise,
         budget,
         &mut low[0..low_len],
-        &mut high,
+        &mut high[0..high_len],
     ) {
         Ok(_) => Err(Fail::new("the score was accepted")),
         Err(denial) => {
@@ -45,9 +51,10 @@ fn denied(span: u32, rise: u32, budget: u32, low_len: usize) -> Result<Denial, F
 
 #[test]
 fn denials_come_in_their_order() -> Result<(), Fail> {
-    check_eq(denied(0, 0, 300, 0)?, Denial::Span)?;
-    check_eq(denied(12, 0, 300, 0)?, Denial::Rise)?;
-    check_eq(denied(12, 3, 12, 0)?, Denial::Budget)?;
-    check_eq(denied(12, 3, 3, 12)?, Denial::Short(13))?;
-    check_eq(denied(1000000, 4295, 3, 13)?, Denial::Rise)
+    check_eq(denied(0, 0, 300, 0, 0)?, Denial::Span)?;
+    check_eq(denied(12, 0, 300, 0, 0)?, Denial::Rise)?;
+    check_eq(denied(1000000, 4295, 3, 13, 13)?, Denial::Rise)?;
+    check_eq(denied(12, 3, 12, 0, 0)?, Denial::Budget)?;
+    check_eq(denied(12, 3, 3, 12, 13)?, Denial::Short(13))?;
+    check_eq(denied(12, 3, 3, 13, 12)?, Denial::Short(13))
 }
