@@ -1,5 +1,7 @@
 // A readout at the desk: sets a logger, runs plans on it, and prints every question with the limits that it leads to.
 // Standard input: on each line one of `diagonal SPAN RISE`, `table V V …`, `spacing N` and `rectangle N`.
+#![tactic(auto)]
+
 mod lines;
 mod notes;
 mod questions;

@@ -1,4 +1,6 @@
 // Runs of a plan on a logger, the score of a plan, and the whole guarantee.
+#![tactic(auto)]
+
 mod asking;
 mod lines;
 mod running;

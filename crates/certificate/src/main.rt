@@ -1,5 +1,7 @@
 // Certifies readings given as text on standard input. The kind of readings, the span and the number of questions
 // are the arguments, or the words of the first line where there are none.
+#![tactic(auto)]
+
 mod gathering;
 mod jobs;
 #[cfg(test)]

@@ -1,4 +1,6 @@
 // From limits to the figures on a certificate: the mean in the readings' own unit, and a certificate for a row of readings.
+#![tactic(auto)]
+
 mod certifying;
 mod means;
 #[cfg(test)]

@@ -1,4 +1,6 @@
 // The threshold counter: a logger whose value at x is the number of lent readings whose level is at most x.
+#![tactic(auto)]
+
 mod counter;
 mod counting;
 mod levels;

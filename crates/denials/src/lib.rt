@@ -1,4 +1,6 @@
 // Denials: why a call did nothing. Every call of the library that can refuse says so by one of these.
+#![tactic(auto)]
+
 ghost use Rattle.std.specs.Prelude.{◌≡◌, Some};
 ghost use Rattle.denials.specs.Told.{told};
 ghost use Rattle.denials.specs.Words.{cause_of, said};

@@ -1,4 +1,6 @@
 // The library for other languages: calls on numbers and slices, for C and Rust to link.
+#![tactic(auto)]
+
 mod answers;
 mod asking;
 mod counting;

@@ -1,4 +1,6 @@
 // Worked figures: numbers that can be checked by hand, derived from the definitions.
+#![tactic(auto)]
+
 ghost use Rattle.figures.specs.Figures.{FiguresAreRight};
 
 // Every figure of the row comes out of the definitions as stated.

@@ -1,4 +1,6 @@
 // The lines of a job sheet, and what each asks for.
+#![tactic(auto)]
+
 mod exact;
 mod jobs;
 mod lines;

@@ -1,5 +1,7 @@
 // Runs a job sheet: reads it from standard input, and writes what its lines print to standard output.
 // A sheet that is denied as a whole writes nothing, and the program ends with status 1.
+#![tactic(auto)]
+
 mod reading;
 
 use anyhow::anyhow;

@@ -1,5 +1,7 @@
 // Works out the limits of a sealed table's sum from answers that were written down.
 // Standard input: the span and the two end values on the first line, then an argument and its value on each.
+#![tactic(auto)]
+
 mod lines;
 mod notes;
 mod words;

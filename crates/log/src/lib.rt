@@ -1,4 +1,6 @@
 // The log of a readout: the points known so far, in fixed memory, and the limits that they set.
+#![tactic(auto)]
+
 mod buffers;
 mod limits;
 mod logs;

@@ -1,4 +1,6 @@
 // Loggers: sealed devices, each of which means one table and answers its count at an argument.
+#![tactic(auto)]
+
 mod asking;
 mod diagonals;
 mod spans;

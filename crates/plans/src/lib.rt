@@ -1,4 +1,6 @@
 // Plans of asking: which argument to ask next, given the log so far.
+#![tactic(auto)]
+
 mod asking;
 mod fallback;
 mod gaps;

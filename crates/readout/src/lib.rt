@@ -1,4 +1,6 @@
 // A readout: it gives tickets for questions under a budget, takes the answers into its log, and tells the limits so far.
+#![tactic(auto)]
+
 mod calls;
 mod events;
 mod history;

@@ -1,4 +1,6 @@
 // Readings as text: what a line says, and the certificate of a batch of lines.
+#![tactic(auto)]
+
 mod batches;
 mod kinds;
 mod lines;

@@ -1,4 +1,5 @@
 // The library's face: all that is open to users, by name. Programs list this one crate.
+#![tactic(auto)]
 
 // why a call refuses
 pub use denials::Denial;

@@ -1,4 +1,6 @@
 // The job sheet: lines that set loggers and run plans on them, and what they print.
+#![tactic(auto)]
+
 mod chosen;
 mod printing;
 mod replies;

@@ -1,5 +1,7 @@
 // The largest sizes: makes loggers at their limits and one past them, runs both plans with all
 // 254 questions on each that is made, and says what came of it. Reads nothing.
+#![tactic(auto)]
+
 mod rows;
 mod tries;
 

@@ -1,4 +1,6 @@
 // Door strips: a kind of logger that counts the ones among the first bits of a lent row of words.
+#![tactic(auto)]
+
 mod bits;
 mod strip;
 

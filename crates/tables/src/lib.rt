@@ -1,4 +1,6 @@
 // The mathematics of sealed loggers: tables, logs, limits, plans and runs, with every general theorem.
+#![tactic(auto)]
+
 mod least;
 mod points;
 mod theorems;

@@ -1,4 +1,6 @@
 // Trials: executed tests of the layers below, and the small proved calls that they share.
+#![tactic(auto)]
+
 mod looks;
 mod tries;
 

@@ -1,4 +1,6 @@
 // Trials of every kind of logger: both plans run on each, and the edges of their making and counting.
+#![tactic(auto)]
+
 mod runs;
 mod samples;
 

@@ -1,4 +1,6 @@
 // Trials of the job sheet: sheets that are run, and compared byte for byte with what they should print.
+#![tactic(auto)]
+
 ghost use Rattle.std.specs.Prelude.{◌≡◌, true};
 ghost use Rattle.sheet.specs.Printing.{sheet_prints};
 

@@ -1,4 +1,6 @@
 // The words of a job sheet: letters and numbers read from it, and lines of numbers written.
+#![tactic(auto)]
+
 mod digits;
 mod lexing;
 mod numbers;
