@@ -4,13 +4,13 @@ use Rattle.tables.proofs.LeastWidth.{least_fits}
 use Rattle.tables.proofs.least.least_width.Goals as goal
 
 -- what the longer gaps add
-pub overflow-mul-result-2 : goal.overflow-mul-result-2
-overflow-mul-result-2 c = omega (arith, least_fits c.args.span c.args.answers (omega arith))
+pub overflow_mul-result-2 : goal.overflow_mul-result-2
+overflow_mul-result-2 c = omega (arith, least_fits c.args.span c.args.answers (omega arith))
 
 -- what the shorter gaps add
-pub overflow-mul-result-4 : goal.overflow-mul-result-4
-overflow-mul-result-4 c = rw c.saturating-sub.ensures (omega (arith, least_fits c.args.span c.args.answers (omega arith)))
+pub overflow_mul-result-4 : goal.overflow_mul-result-4
+overflow_mul-result-4 c = rw c.saturating_sub.ensures (omega (arith, least_fits c.args.span c.args.answers (omega arith)))
 
 -- what both add
-pub overflow-add-result-2 : goal.overflow-add-result-2
-overflow-add-result-2 c = rw c.saturating-sub.ensures (omega (arith, least_fits c.args.span c.args.answers (omega arith)))
+pub overflow_add-result-2 : goal.overflow_add-result-2
+overflow_add-result-2 c = rw c.saturating_sub.ensures (omega (arith, least_fits c.args.span c.args.answers (omega arith)))

@@ -10,5 +10,5 @@ returns-then-sheet-at-eq10 c = lexed_end c.args.sheet.now c.args.at c.if-at-shee
 
 pub returns : goal.returns
 returns c =
-    c.word-of.ensures
-    ∙ lexed-word c.args.sheet.now c.args.at c.gap-from.result c.if-at-sheet.false c.if-sheet-at-eq10.false c.gap-from.ensures.found
+    c.word_of.ensures
+    ∙ lexed-word c.args.sheet.now c.args.at c.gap_from.result c.if-at-sheet.false c.if-sheet-at-eq10.false c.gap_from.ensures.found

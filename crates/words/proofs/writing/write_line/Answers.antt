@@ -5,6 +5,6 @@ use Rattle.words.proofs.writing.write_line.Goals as goal
 pub returns : goal.returns
 returns c =
     let done =
-    line_done c.args.letter c.args.at c.args.numbers.now c.args.out.now c.write-spaced-end.result c.write-spaced-end.new.out
-    (sym c.if-not-has-room.ensures) c.write-spaced-end.ensures.end c.write-spaced-end.ensures.row in
+    line_done c.args.letter c.args.at c.args.numbers.now c.args.out.now c.write_spaced-end.result c.write_spaced-end.new.out
+    (sym c.if-not-has_room.ensures) c.write_spaced-end.ensures.end c.write_spaced-end.ensures.row in
     record { end = done.0; row = done.1 }
