@@ -1,11 +1,11 @@
 // A plan that notes what it asks.
 ghost use Rattle.std.specs.Prelude.{◌≡◌, ◌<◌, [], ◌++◌};
-ghost use Rattle.log.specs.Points.{points};
+ghost use Rattle.logs.specs.Points.{points};
 ghost use Rattle.std.specs.Option.{option_to_list};
 ghost use Rattle.ask.specs.Noted.{noted};
 
 use super::questions::Questions;
-use log::Log;
+use logs::Log;
 use plans::Plan;
 
 // A plan, with the questions that it has asked.

@@ -10,8 +10,8 @@ use super::notes::Noting;
 use super::questions::Questions;
 use bench::{Line, run};
 use denials::Denial;
-use log::Limits;
 use loggers::Logger;
+use logs::Limits;
 use plans::{EqualSpacing, Plan, WidestRectangle};
 use readout::Readout;
 

@@ -6,7 +6,7 @@ use Rattle.denials.specs.Bounds.{bad_budget}
 use Rattle.denials.specs.Checks.{Decided}
 use Rattle.denials.specs.Told.{told}
 use Rattle.denials.proofs.Passing.{promised, accepted}
-use Rattle.log.specs.Buffers.{written}
+use Rattle.logs.specs.Buffers.{written}
 use Rattle.loggers.specs.declared.diagonals.Diagonal.{Diagonal}
 use Rattle.tables.specs.declared.points.Point.{Point}
 use Rattle.tables.specs.Least.{least_width}

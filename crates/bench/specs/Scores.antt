@@ -2,7 +2,7 @@
 use Rattle.std.specs.Prelude.{◌≡◌, ℕ, ◌+◌, ◌*◌, ◌<◌, false, ◌||◌, List, [], ◌∷◌, Option, nat_lt}
 use Rattle.denials.specs.Bounds.{bad_span, bad_budget}
 use Rattle.denials.specs.Checks.{first}
-use Rattle.log.specs.Buffers.{written}
+use Rattle.logs.specs.Buffers.{written}
 use Rattle.loggers.specs.declared.diagonals.Diagonal.{Diagonal}
 use Rattle.loggers.specs.Makings.{bad_rise}
 use Rattle.tables.specs.declared.points.Point.{Point}

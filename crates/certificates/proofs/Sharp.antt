@@ -1,7 +1,7 @@
 -- The limits of a mean are sharp. Assumes nothing.
 use Rattle.std.proofs.Common.{◌≡◌, ℕ, ◌+◌, ◌-◌, ◌*◌, ◌/◌, ◌%◌, ◌^◌, ◌<◌, ◌≤◌, min, List, length, ℤ, pos, ◌-ℤ◌, ◌≤ℤ◌, Some, sym, refl, ◌∙◌, mul-le-mul, div-le_self, arith}
 use Rattle.std.proofs.lemmas.Bool.{cond-false, ne_eqb}
-use Rattle.log.specs.declared.limits.Limits.{Limits}
+use Rattle.logs.specs.declared.limits.Limits.{Limits}
 use Rattle.readout.specs.Levels.{levels, last_everywhere}
 use Rattle.tables.specs.declared.points.Point.{Point}
 use Rattle.tables.specs.Log.{IsLog, last_value, span_of, low_table, high_table}

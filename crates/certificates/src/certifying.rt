@@ -13,8 +13,8 @@ use super::means::{Mean, mean_of_levels};
 use bench::{Line, run};
 use counters::{Counter, OwnUnit};
 use denials::Denial;
-use log::Limits;
 use loggers::Logger;
+use logs::Limits;
 use plans::EqualSpacing;
 use readout::Readout;
 

@@ -2,8 +2,8 @@
 use Rattle.std.proofs.Common.{◌≡◌, ℕ, Bool, true, List, Some, None, Ok, Err, Option, sym, refl, ap, ◌∙◌}
 use Rattle.denials.specs.Checks.{Decided}
 use Rattle.tables.specs.declared.points.Point.{Point}
-use Rattle.log.specs.declared.misfits.Misfit.{Misfit}
-use Rattle.log.specs.Fits.{misfit}
+use Rattle.logs.specs.declared.misfits.Misfit.{Misfit}
+use Rattle.logs.specs.Fits.{misfit}
 use Rattle.limits.specs.declared.lines.Line.TheVariants as line
 use Rattle.limits.specs.declared.notes.Said.{Said}
 use Rattle.limits.specs.declared.notes.Said.TheVariants as says

@@ -1,10 +1,10 @@
 // The answers so far, and what each line does to them.
 ghost use Rattle.std.specs.Prelude.{◌≡◌, false};
-ghost use Rattle.log.specs.Points.{points};
+ghost use Rattle.logs.specs.Points.{points};
 ghost use Rattle.limits.specs.Noted.{said, kept, Summed};
 
 use super::lines::Line;
-use log::{BadEnds, Log, Misfit};
+use logs::{BadEnds, Log, Misfit};
 use tables::Point;
 
 #[derive(Drop)]

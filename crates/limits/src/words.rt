@@ -1,6 +1,6 @@
 // What is printed.
 use super::notes::{Said, Summary};
-use log::{BadEnds, Misfit};
+use logs::{BadEnds, Misfit};
 use std::fmt;
 
 fn why_ends(bad: BadEnds) -> &'static str {

@@ -6,9 +6,9 @@ use Rattle.tables.specs.declared.points.Point.{Point}
 use Rattle.tables.specs.Log.{IsLog, span_of, has, inner_of}
 use Rattle.tables.specs.Plan.{unknown, first_unknown, lowest_unknown}
 use Rattle.tables.proofs.Unknown.{Askable, askable_unknown}
-use Rattle.log.specs.Fits.{origin}
-use Rattle.log.proofs.Adding.{nth}
-use Rattle.log.proofs.Gaps.{span_at_end}
+use Rattle.logs.specs.Fits.{origin}
+use Rattle.logs.proofs.Adding.{nth}
+use Rattle.logs.proofs.Gaps.{span_at_end}
 use Rattle.plans.specs.declared.gaps.Gap.{Gap}
 use Rattle.plans.specs.Gaps.{first_inside}
 use Rattle.plans.specs.Lawful.{inside_askable}

@@ -3,8 +3,8 @@ use Rattle.std.proofs.Common.{◌≡◌, ℕ, zero, suc, ◌+◌, ◌-◌, ◌<�
 use Rattle.std.specs.List.{AllByRecursion as All}
 use Rattle.std.proofs.lemmas.List.{drop_more, length-drop}
 use Rattle.tables.specs.declared.points.Point.{Point}
-use Rattle.log.specs.Fits.{origin}
-use Rattle.log.proofs.Adding.{nth}
+use Rattle.logs.specs.Fits.{origin}
+use Rattle.logs.proofs.Adding.{nth}
 use Rattle.plans.specs.declared.gaps.Gap.{Gap}
 use Rattle.plans.specs.Gaps.{gaps}
 

@@ -1,9 +1,9 @@
 // What a plan of asking is: a function from logs to the next argument to ask, or to none.
 ghost use Rattle.std.specs.Prelude.{◌≡◌};
-ghost use Rattle.log.specs.Points.{points};
+ghost use Rattle.logs.specs.Points.{points};
 ghost use Rattle.tables.specs.Plan.{Plan as Asking, Lawful};
 
-use log::Log;
+use logs::Log;
 
 // A plan means a function from logs, which keeps the law of plans. It may keep working memory,
 // but a call leaves what it means unchanged.

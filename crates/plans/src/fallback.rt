@@ -1,11 +1,11 @@
 // What every plan here falls back on: the lowest unknown argument.
 ghost use Rattle.std.specs.Prelude.{◌≡◌, true};
-ghost use Rattle.log.specs.Held.{is_log};
-ghost use Rattle.log.specs.Points.{points};
+ghost use Rattle.logs.specs.Held.{is_log};
+ghost use Rattle.logs.specs.Points.{points};
 ghost use Rattle.tables.specs.Plan.{lowest_unknown};
 
 use super::gaps::Gap;
-use log::Log;
+use logs::Log;
 use tables::Point;
 
 // The lowest inner argument that is not in the log.

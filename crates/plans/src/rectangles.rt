@@ -7,7 +7,7 @@ ghost use Rattle.plans.specs.Widest.{wider, widest, widest_rectangle, WidestIsWi
 use super::asking::Plan;
 use super::fallback::lowest_unknown;
 use super::gaps::Gap;
-use log::Log;
+use logs::Log;
 use tables::Point;
 
 #[derive(Clone, Copy)]

@@ -2,7 +2,7 @@
 ghost use Rattle.std.specs.Prelude.{◌≡◌, [], ◌∷◌, nat_lt};
 ghost use Rattle.denials.specs.Checks.{Decided, first};
 ghost use Rattle.denials.specs.Told.{told};
-ghost use Rattle.log.specs.Points.{points};
+ghost use Rattle.logs.specs.Points.{points};
 ghost use Rattle.tables.proofs.Spacing.{spacing_is_lawful};
 ghost use Rattle.tables.specs.Log.{span_of};
 ghost use Rattle.tables.specs.Plan.{unknown, first_unknown, stops, equal_spacing};
@@ -11,7 +11,7 @@ ghost use Rattle.plans.specs.Meanings.{spacing_of};
 use super::asking::Plan;
 use super::fallback::lowest_unknown;
 use denials::Denial;
-use log::Log;
+use logs::Log;
 
 #[derive(Clone, Copy)]
 pub struct EqualSpacing {

@@ -7,9 +7,9 @@ use Rattle.tables.specs.Plan.{unknown}
 use Rattle.tables.specs.Table.{Inner}
 use Rattle.tables.proofs.Inserts.{insert-length}
 use Rattle.denials.specs.Checks.{Decided}
-use Rattle.log.specs.Fits.{misfit}
-use Rattle.log.specs.declared.misfits.Misfit.{Misfit}
-use Rattle.log.specs.declared.misfits.Misfit.TheVariants.{OutOfOrder}
+use Rattle.logs.specs.Fits.{misfit}
+use Rattle.logs.specs.declared.misfits.Misfit.{Misfit}
+use Rattle.logs.specs.declared.misfits.Misfit.TheVariants.{OutOfOrder}
 use Rattle.readout.specs.Calls.{out_of_order}
 use Rattle.readout.specs.Noted.{Noted}
 

@@ -3,7 +3,7 @@ use Rattle.std.proofs.Common.{◌≡◌, ◌+◌, ◌*◌, ◌≤◌, List, [], 
 use Rattle.tables.specs.declared.points.Point.{Point}
 use Rattle.tables.specs.Log.{Rising, last_of, IsLog, span_of, inner_of, high}
 use Rattle.tables.proofs.Limits.{width_is_gaps}
-use Rattle.log.proofs.Gaps.{value_le_last}
+use Rattle.logs.proofs.Gaps.{value_le_last}
 use Rattle.readout.specs.Levels.{last_everywhere, Above}
 
 -- the high limit is at most the last value at every argument from the first on

@@ -1,6 +1,6 @@
 -- The total of levels: by how much a table's sum stays below its last value at every argument. Assumes nothing.
 use Rattle.std.specs.Prelude.{ℕ, ◌+◌, ◌-◌, ◌*◌, ◌≤◌, List}
-use Rattle.log.specs.declared.limits.Limits.{Limits}
+use Rattle.logs.specs.declared.limits.Limits.{Limits}
 use Rattle.tables.specs.declared.points.Point.{Point}
 use Rattle.tables.specs.Log.{last_value, span_of, low, high}
 

@@ -1,7 +1,7 @@
 -- What a readout shows. Assumes nothing.
 use Rattle.std.specs.Prelude.{ℕ, List, Option}
 use Rattle.tables.specs.declared.points.Point.{Point}
-use Rattle.log.specs.Points as log
+use Rattle.logs.specs.Points as log
 use Rattle.readout.specs.declared.readouts.Readout.{Readout}
 use Rattle.readout.specs.Out.{out_of}
 

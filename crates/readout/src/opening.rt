@@ -9,7 +9,7 @@ ghost use Rattle.readout.specs.Views.{view};
 use super::readouts::Readout;
 use super::states::State;
 use denials::Denial;
-use log::Log;
+use logs::Log;
 
 impl Readout {
     // A new place: span 1 and values 0, no question left, no ticket out, mark 0.

@@ -1,6 +1,6 @@
 // What a readout tells.
 ghost use Rattle.std.specs.Prelude.{◌≡◌};
-ghost use Rattle.log.specs.Points.{points};
+ghost use Rattle.logs.specs.Points.{points};
 ghost use Rattle.tables.specs.Log.{SharpLimits};
 ghost use Rattle.readout.specs.Calls.{summary};
 ghost use Rattle.readout.specs.Levels.{levels, last_everywhere, Above};
@@ -9,7 +9,7 @@ ghost use Rattle.readout.specs.Views.{view};
 use super::events::Summary;
 use super::readouts::Readout;
 use super::states::State;
-use log::{Limits, Log};
+use logs::{Limits, Log};
 
 impl Readout {
     // The limits of the sum so far, by the formula and sharp, and the number of accepted answers.

@@ -1,10 +1,10 @@
 // A readout: its log, the questions left, its mark, and whether a ticket is out.
 ghost use Rattle.std.specs.Prelude.{◌≡◌, ◌+◌, ◌≤◌, true, length};
-ghost use Rattle.log.specs.Points.{points};
+ghost use Rattle.logs.specs.Points.{points};
 ghost use Rattle.readout.specs.Out.{out_of, tickets, asks_new};
 
 use super::states::State;
-use log::Log;
+use logs::Log;
 
 #[derive(Drop)]
 pub struct Readout {

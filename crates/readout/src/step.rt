@@ -2,7 +2,7 @@
 ghost use Rattle.std.specs.Prelude.{◌≡◌, ◌<◌, true, false, length, None, MatchResult};
 ghost use Rattle.denials.specs.declared.Denial.TheVariants.{OutOfOrder};
 ghost use Rattle.tables.specs.Plan.{unknown};
-ghost use Rattle.log.specs.Points.{points};
+ghost use Rattle.logs.specs.Points.{points};
 ghost use Rattle.readout.specs.Calls.{take_denied, out_of_order, stepped, changes};
 ghost use Rattle.readout.specs.Noted.{Noted};
 ghost use Rattle.readout.specs.Tickets.{is_for};
@@ -13,7 +13,7 @@ use super::readouts::Readout;
 use super::states::State;
 use super::tickets::{Returned, Ticket};
 use denials::Denial;
-use log::Log;
+use logs::Log;
 use tables::Point;
 
 impl Readout {

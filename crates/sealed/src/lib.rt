@@ -5,7 +5,7 @@
 pub use denials::Denial;
 
 // points, the log that they make, and its limits
-pub use log::{BadEnds, Limits, Log, Misfit};
+pub use logs::{BadEnds, Limits, Log, Misfit};
 pub use tables::{Point, least_width};
 
 // loggers, by the tables that they mean

@@ -7,8 +7,8 @@ ghost use Rattle.trials_kinds.specs.Runs.{FoundOn, BothOn, sums};
 
 use bench::{Line, run};
 use denials::Denial;
-use log::Limits;
 use loggers::Logger;
+use logs::Limits;
 use plans::{EqualSpacing, Plan, WidestRectangle};
 use readout::Readout;
 

@@ -1,5 +1,5 @@
 use Rattle.std.proofs.Common.{◌-◌, length, refl, ap, ◌∙◌, arith}
-use Rattle.log.specs.Points.{points}
+use Rattle.logs.specs.Points.{points}
 use Rattle.tables.specs.Log.{span_of, first_value, last_value}
 use Rattle.tables.specs.Theorems.{promise}
 use Rattle.certificates.proofs.Drawing.{counted_le, drawn}

@@ -1,7 +1,7 @@
 use Rattle.std.proofs.Common.{◌-◌, ◌≤◌, length, ap, ◌∙◌, arith, w64, SFits}
 use Rattle.std.proofs.lemmas.Int.{to_z-of_z}
-use Rattle.log.specs.Points.{points}
-use Rattle.log.proofs.Sound.{is_log_lem}
+use Rattle.logs.specs.Points.{points}
+use Rattle.logs.proofs.Sound.{is_log_lem}
 use Rattle.readout.specs.Levels.{last_everywhere}
 use Rattle.tables.specs.Log.{last_value}
 use Rattle.certificates.proofs.Sharp.{quotient_small, mean_so}

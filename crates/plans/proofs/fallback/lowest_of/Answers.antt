@@ -1,5 +1,5 @@
 use Rattle.std.proofs.Common.{arith}
-use Rattle.log.proofs.Sound.{is_log_lem, log_some}
+use Rattle.logs.proofs.Sound.{is_log_lem, log_some}
 use Rattle.plans.proofs.Lowest.{lowest_inside, known_more, lowest_none}
 use Rattle.plans.proofs.fallback.lowest_of.Goals as goal
 

@@ -1,5 +1,5 @@
 use Rattle.std.proofs.Common.{◌-◌}
-use Rattle.log.proofs.Adding.{nth}
+use Rattle.logs.proofs.Adding.{nth}
 use Rattle.plans.proofs.Lowest.{KnownTo}
 use Rattle.plans.proofs.fallback.lowest_of.Given as goal
 

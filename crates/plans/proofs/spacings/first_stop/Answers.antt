@@ -1,5 +1,5 @@
 use Rattle.std.proofs.Common.{sym, arith}
-use Rattle.log.specs.Points.{points}
+use Rattle.logs.specs.Points.{points}
 use Rattle.plans.proofs.Cuts.{stop_within, stop_taken, stop_passed}
 use Rattle.plans.proofs.spacings.first_stop.Goals as goal
 

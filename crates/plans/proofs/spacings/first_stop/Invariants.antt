@@ -1,7 +1,7 @@
 use Rattle.std.proofs.Common.{◌≡◌}
 use Rattle.tables.specs.Log.{span_of}
 use Rattle.tables.specs.Plan.{first_unknown, stops}
-use Rattle.log.specs.Points.{points}
+use Rattle.logs.specs.Points.{points}
 use Rattle.plans.proofs.Cuts.{from_stop}
 use Rattle.plans.proofs.spacings.first_stop.Given as goal
 

@@ -1,5 +1,5 @@
 use Rattle.std.proofs.Common.{refl}
-use Rattle.log.specs.Points.{points}
+use Rattle.logs.specs.Points.{points}
 use Rattle.readout.proofs.Noting.{went_in, stayed_out}
 use Rattle.readout.proofs.step.note.Goals as goal
 

@@ -1,5 +1,5 @@
 use Rattle.std.proofs.Common.{ap}
-use Rattle.log.specs.Points.{points}
+use Rattle.logs.specs.Points.{points}
 use Rattle.limits.proofs.Entered.{taken, refused}
 use Rattle.limits.proofs.notes.Notes.take_in.Goals as goal
 

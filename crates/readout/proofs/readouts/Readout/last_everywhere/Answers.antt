@@ -1,6 +1,6 @@
 use Rattle.std.proofs.Common.{◌≡◌, ◌+◌, ◌*◌, sym, subst}
-use Rattle.log.specs.Points.{points}
-use Rattle.log.proofs.Sound.{is_log_lem}
+use Rattle.logs.specs.Points.{points}
+use Rattle.logs.proofs.Sound.{is_log_lem}
 use Rattle.readout.specs.Levels.{last_everywhere, Above}
 use Rattle.readout.proofs.Tops.{above_all}
 use Rattle.readout.proofs.readouts.Readout.last_everywhere.Goals as goal

@@ -3,8 +3,8 @@ use Rattle.std.proofs.lemmas.Nat.{ones-le}
 use Rattle.strips.proofs.Counts.{whole_ones, rest_ones}
 use Rattle.strips.proofs.strip.making.ones_before.Goals as goal
 
-pub overflow-add-total : goal.overflow-add-total
-overflow-add-total c =
+pub overflow_add-total : goal.overflow_add-total
+overflow_add-total c =
     let word = get_or c.args.words.now c.loop-i.i 0 in
     let few = ones-le 64 word (c.type-inv.words c.loop-i.i).fits in
     omega arith
