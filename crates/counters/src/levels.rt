@@ -20,12 +20,12 @@ pub trait OwnUnit: Level {
     // the level of a reading of 0
     ghost zero: { ℕ };
 
-    // the level is the reading moved up by that, and 0 where this is negative
-    ghost moved: { (r : Self) → Self.Level.height r ≡ natural (own r +ℤ pos zero) };
-
     // The level of a reading of 0: a level less this is in the reading's own unit.
     fn zero_level() -> u32
         ensures { result ≡ zero };
+
+    // the level is the reading moved up by that, and 0 where this is negative
+    ghost moved: { (r : Self) → Self.height r ≡ natural (own r +ℤ pos zero) };
 }
 
 // A reading of the climate: the minute, and the temperature in hundredths of a degree.

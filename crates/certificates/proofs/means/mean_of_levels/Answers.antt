@@ -24,8 +24,8 @@ own-unit-requires-2 g c =
 pub returns : goal.returns
 returns g c =
     let log = points c.args.readout.now.log in
-    let low : SFits w64 c.own-unit.result = record { sfits = c.own-unit.type-inv } in
-    let high : SFits w64 c.own-unit-2.result = record { sfits = c.own-unit-2.type-inv } in
+    let low : SFits w64 c.own-unit.result = record { sfits = c.own-unit.type_inv } in
+    let high : SFits w64 c.own-unit-2.result = record { sfits = c.own-unit-2.type_inv } in
     let so = mean_so g.T.OwnUnit.zero log (is_log_lem log c.args.readout.now.log.sound)
     c.last-counted.result (c.last-counted.ensures ∙ ap last_value c.log.ensures) (omega arith)
     c.total-of-levels-total.result c.total-of-levels-total.ensures.is

@@ -7,7 +7,7 @@ pub returns-in-Some : goal.returns-in-Some
 returns-in-Some c = lowest_inside c.args.points.now c.loop-i.i (is_log_lem _ c.requires) (omega arith) c.loop-i.invariant (omega arith) c.in-Some.at c.in-Some.ensures
 
 pub loop-i-preserved : goal.loop-i-preserved
-loop-i-preserved c = known_more c.args.points.now c.loop-i.i (is_log_lem _ c.requires) (omega arith) c.loop-i.invariant (omega arith) c.in-default.ensures
+loop-i-preserved c = known_more c.args.points.now c.loop-i.i (is_log_lem _ c.requires) (omega arith) c.loop-i.invariant (omega arith) c.in_default.ensures
 
 pub returns : goal.returns
 returns c =

@@ -6,14 +6,14 @@ use Rattle.strips.proofs.strip.making.ones_before.Goals as goal
 pub overflow_add-total : goal.overflow_add-total
 overflow_add-total c =
     let word = get_or c.args.words.now c.loop-i.i 0 in
-    let few = ones-le 64 word (c.type-inv.words c.loop-i.i).fits in
+    let few = ones-le 64 word (c.type_inv.words c.loop-i.i).fits in
     omega arith
 
 pub loop-i-preserved : goal.loop-i-preserved
 loop-i-preserved c =
     let word = get_or c.args.words.now c.loop-i.i 0 in
-    let few = ones-le 64 word (c.type-inv.words c.loop-i.i).fits in (
-      whole_ones c.args.words.now c.loop-i.i c.loop-i.total (omega arith) (c.type-inv.words c.loop-i.i).fits c.loop-i.invariant.0,
+    let few = ones-le 64 word (c.type_inv.words c.loop-i.i).fits in (
+      whole_ones c.args.words.now c.loop-i.i c.loop-i.total (omega arith) (c.type_inv.words c.loop-i.i).fits c.loop-i.invariant.0,
       omega arith,
     )
 
