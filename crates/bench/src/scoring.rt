@@ -5,7 +5,7 @@ ghost use Rattle.denials.specs.Told.{told};
 ghost use Rattle.logs.specs.Buffers.{written};
 ghost use Rattle.logs.specs.Points.{points};
 ghost use Rattle.tables.specs.Least.{least_width};
-ghost use Rattle.tables.specs.Log.{span_of, low_table, high_table};
+ghost use Rattle.tables.specs.Log.{span_of, low_table as low_table_of, high_table as high_table_of};
 ghost use Rattle.bench.specs.Guarantee.{Guarantee};
 ghost use Rattle.bench.specs.Scores.{score_denied, Fit, Scored};
 
@@ -100,8 +100,8 @@ fn measure<P: Plan>(
 fn write_tables(log: &Log, low_table: &mut [u32], high_table: &mut [u32])
     requires low { span_of (points log.now) < length low_table.old }
     requires high { span_of (points log.now) < length high_table.old }
-    ensures low { low_table.new ≡ written (low_table (points log.now)) (span_of (points log.now)) low_table.old }
-    ensures high { high_table.new ≡ written (high_table (points log.now)) (span_of (points log.now)) high_table.old }
+    ensures low { low_table.new ≡ written (low_table_of (points log.now)) (span_of (points log.now)) low_table.old }
+    ensures high { high_table.new ≡ written (high_table_of (points log.now)) (span_of (points log.now)) high_table.old }
 {
     let _ = log.write_low(low_table);
     let _ = log.write_high(high_table);

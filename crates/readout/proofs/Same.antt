@@ -13,6 +13,6 @@ same r s a b c d = λ i. record {
   left = b i;
   mark = c i;
   state = d i;
-  new = is_prop→PathP (λ i. asks_new (out_of (d i)) (points (a i)) ≡ true) (λ i. Bool-set _ _) r.new s.new i;
+  unasked = is_prop→PathP (λ i. asks_new (out_of (d i)) (points (a i)) ≡ true) (λ i. Bool-set _ _) r.unasked s.unasked i;
   room = is_prop→PathP (λ i. length (points (a i)) + b i + tickets (out_of (d i)) ≤ 256) (λ i. le_prop) r.room s.room i;
 }

@@ -15,7 +15,7 @@ use denials::Denial;
 impl Readout {
     // Gives a ticket for the argument x. Denied with 4, 5, 6 or 7.
     pub fn take(&mut self, x: u32) -> Result<Ticket, Denial>
-        ensures { Decided told (option_map told (take_denied (view self.entry.now) x)) result (λ t. (t ≡ ticket_of (view self.entry.now).mark x) × (view self.exit.now ≡ taken (view self.entry.now) x)) (self.exit.now ≡ self.entry.now) }
+        ensures { Decided told (option_map told (take_denied (view self.old) x)) result (λ t. (t ≡ ticket_of (view self.old).mark x) × (view self.new ≡ taken (view self.old) x)) (self.new ≡ self.old) }
     {
         match self.step(Event::Take(x)) {
             Outcome::Given(ticket) => Ok(ticket),
@@ -26,7 +26,7 @@ impl Readout {
 
     // Takes the answer to the ticket that is out into the log. Denied with 8 or 9, which hand the ticket back.
     pub fn answer(&mut self, ticket: Ticket, value: u32) -> Result<(), Returned>
-        ensures { Decided told_back (option_map told_back (answer_denied (view self.entry.now) ticket value)) result (λ _. view self.exit.now ≡ answered (view self.entry.now) ticket.at value) (self.exit.now ≡ self.entry.now) }
+        ensures { Decided told_back (option_map told_back (answer_denied (view self.old) ticket value)) result (λ _. view self.new ≡ answered (view self.old) ticket.at value) (self.new ≡ self.old) }
     {
         match self.step(Event::Answer(ticket, value)) {
             Outcome::Answered => Ok(()),
@@ -37,7 +37,7 @@ impl Readout {
 
     // Takes back the ticket that is out; its question is left again. Denied with 8, which hands the ticket back.
     pub fn withdraw(&mut self, ticket: Ticket) -> Result<(), Returned>
-        ensures { Decided told_back (option_map told_back (withdraw_denied (view self.entry.now) ticket)) result (λ _. view self.exit.now ≡ withdrawn (view self.entry.now)) (self.exit.now ≡ self.entry.now) }
+        ensures { Decided told_back (option_map told_back (withdraw_denied (view self.old) ticket)) result (λ _. view self.new ≡ withdrawn (view self.old)) (self.new ≡ self.old) }
     {
         match self.step(Event::Withdraw(ticket)) {
             Outcome::Withdrawn => Ok(()),

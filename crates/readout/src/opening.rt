@@ -33,7 +33,7 @@ impl Readout {
         budget: u32,
         mark: u16,
     ) -> Result<(), Denial>
-        ensures { Decided told (option_map told (open_denied span first last budget)) result (λ _. view self.exit.now ≡ opened span first last budget mark) (self.exit.now ≡ self.entry.now) }
+        ensures { Decided told (option_map told (open_denied span first last budget)) result (λ _. view self.new ≡ opened span first last budget mark) (self.new ≡ self.old) }
     {
         match open_denial(span, first, last, budget) {
             Some(denial) => Err(denial),

@@ -12,6 +12,6 @@ pub struct Readout {
     pub(crate) left: u32,
     pub(crate) mark: u16,
     pub(crate) state: State,
-    ghost new: { asks_new (out_of state) (points log) ≡ true },
+    ghost unasked: { asks_new (out_of state) (points log) ≡ true },
     ghost room: { length (points log) + left + tickets (out_of state) ≤ 256 },
 }

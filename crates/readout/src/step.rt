@@ -19,8 +19,8 @@ use tables::Point;
 impl Readout {
     // Does what the event asks, or says why not and changes nothing.
     pub fn step(&mut self, event: Event) -> Outcome
-        ensures moves { (view self.exit.now, result) ≡ stepped (view self.entry.now) event }
-        ensures keeps { changes result ≡ false → self.exit.now ≡ self.entry.now }
+        ensures moves { (view self.new, result) ≡ stepped (view self.old) event }
+        ensures keeps { changes result ≡ false → self.new ≡ self.old }
     {
         match (self.state, event) {
             (_, Event::Limits) => Outcome::Limited(self.limits()),
@@ -58,7 +58,7 @@ impl Readout {
 
     // Whether the readout gave this ticket for x.
     fn gave(&self, ticket: &Ticket, x: u32) -> bool
-        ensures { result ≡ is_for ticket.now (view self.entry.now).mark x }
+        ensures { result ≡ is_for ticket.now (view self.now).mark x }
     {
         ticket.mark() == self.mark && ticket.at() == x
     }
@@ -66,7 +66,7 @@ impl Readout {
     // Why a resting readout gives no ticket for x, if it does not.
     fn refusal(&self, x: u32) -> Option<Denial>
         requires { (view self.now).out ≡ None }
-        ensures { result ≡ take_denied (view self.entry.now) x }
+        ensures { result ≡ take_denied (view self.now) x }
     {
         if x == 0 || x >= self.log.span() {
             Some(Denial::NotInner)

@@ -1,10 +1,10 @@
 -- The ones of a strip, word by word. Assumes nothing.
-use Rattle.std.proofs.Common.{◌≡◌, ℕ, zero, suc, ◌+◌, ◌-◌, ◌*◌, ◌/◌, ◌%◌, ◌^◌, ◌<◌, ◌≤◌, List, [], ◌∷◌, ◌++◌, length, get_or, take, sym, refl, ap, ◌∙◌, mod-eq_of_lt, add-one, arith}
+use Rattle.std.proofs.Common.{◌≡◌, ℕ, zero, suc, ◌+◌, ◌-◌, ◌*◌, ◌/◌, ◌%◌, ◌^◌, ◌<◌, ◌≤◌, List, [], ◌∷◌, ◌++◌, length, get_or, take, sym, refl, ap, ◌∙◌, mod-eq_of_lt, mod-lt, add-one, arith}
 use lib.Bits.{bit_and}
 use lib.Count.{ones, ones_step, ones-ones}
 use lib.Pow.{field, mod-mod-pow}
 use lib.Seq.{take-append-add, take-append-le}
-use Rattle.std.proofs.lemmas.Nat.{and_mask, one_shl}
+use Rattle.std.proofs.lemmas.Nat.{and_mask, one_shl, ones-le, pow_pos}
 use Rattle.strips.specs.Bits.{low_bits, bits_of, ones_among, strip_table}
 
 -- as many bits as are asked for
@@ -64,6 +64,13 @@ whole_ones ws i t lt fits e =
     let all : get_or ws i 0 % 2 ^ 64 ≡ get_or ws i 0 = mod-eq_of_lt fits in
     ap (λ n. n + ones (get_or ws i 0)) e ∙ ap (λ w. strip_table ws (64 * i) + ones w) (sym all)
     ∙ sym (next_ones ws i 64 lt (omega arith)) ∙ ap (strip_table ws) next
+
+-- no more ones than the bits of the mask
+pub few_rest : (w r : ℕ) → r < 64 → ones (bit_and w ((1 * 2 ^ r) % 2 ^ 64 - 1)) ≤ r
+few_rest w r lt =
+    let mask : bit_and w ((1 * 2 ^ r) % 2 ^ 64 - 1) ≡ w % 2 ^ r =
+    ap (λ n. bit_and w (n - 1)) (one_shl r 64 lt) ∙ and_mask w r in
+    rw mask (ones-le r (w % 2 ^ r) (mod-lt w (pow_pos r)))
 
 -- the masked rest of the word after the first i
 pub rest_ones : (ws : List ℕ) (x i t : ℕ) → i ≡ x / 64 → x / 64 < length ws → t ≡ strip_table ws (64 * i) → t + ones (bit_and (get_or ws (x / 64) 0) ((1 * 2 ^ (x % 64)) % 2 ^ 64 - 1)) ≡ strip_table ws x

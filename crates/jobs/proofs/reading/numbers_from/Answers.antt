@@ -8,10 +8,10 @@ use Rattle.jobs.specs.Values.{listed}
 use Rattle.jobs.proofs.Taking.{with_front, numbered_some, numbered_none, take_more, take_none, take_full, take_all_of, tail_other}
 use Rattle.jobs.proofs.reading.numbers_from.Goals as goal
 
-pub returns-in-default : goal.returns-in-default
-returns-in-default c k =
+pub returns-in_default : goal.returns-in_default
+returns-in_default c k =
     ap (formed_of k) c.loop-place.invariant
-    ∙ take_none c.args.sheet.now c.loop-place.place (listed c.loop-place.values) k c.loop-place-test.true c.if-sheet-place-eq32.true (numbered_none (drop (c.loop-place.place + 1) c.args.sheet.now) (c.loop-place.place + 1) c.in-default.ensures)
+    ∙ take_none c.args.sheet.now c.loop-place.place (listed c.loop-place.values) k c.loop-place-test.true c.if-sheet-place-eq32.true (numbered_none (drop (c.loop-place.place + 1) c.args.sheet.now) (c.loop-place.place + 1) c.in_default.ensures)
 
 pub returns-then-not-put : goal.returns-then-not-put
 returns-then-not-put c k =
