@@ -7,28 +7,28 @@ use Rattle.tables.specs.Log.{last_value}
 use Rattle.certificates.proofs.Sharp.{quotient_small, mean_so}
 use Rattle.certificates.proofs.means.mean_of_levels.Goals as goal
 
-pub own-unit-requires : goal.own-unit-requires
-own-unit-requires g c =
+pub own_unit-requires : goal.own_unit-requires
+own_unit-requires g c =
     let log = points c.args.readout.now.log in
-    let a = c.total-of-levels-total.result.low in
-    let le : a ≤ last_everywhere log = omega (arith, ap (λ l. l.low) c.total-of-levels-total.ensures.is) in
+    let a = c.total_of_levels-total.result.low in
+    let le : a ≤ last_everywhere log = omega (arith, ap (λ l. l.low) c.total_of_levels-total.ensures.is) in
     omega (arith, quotient_small log c.last-counted.result a c.last-counted.result (c.last-counted.ensures ∙ ap last_value c.log.ensures) (omega arith) c.args.readout.now.log.short le)
 
-pub own-unit-requires-2 : goal.own-unit-requires-2
-own-unit-requires-2 g c =
+pub own_unit-requires-2 : goal.own_unit-requires-2
+own_unit-requires-2 g c =
     let log = points c.args.readout.now.log in
-    let a = c.total-of-levels-total.result.high in
-    let le : a ≤ last_everywhere log = omega (arith, ap (λ l. l.high) c.total-of-levels-total.ensures.is) in
-    omega (arith, c.div-ceil.ensures, quotient_small log c.last-counted.result a c.last-counted.result (c.last-counted.ensures ∙ ap last_value c.log.ensures) (omega arith) c.args.readout.now.log.short le)
+    let a = c.total_of_levels-total.result.high in
+    let le : a ≤ last_everywhere log = omega (arith, ap (λ l. l.high) c.total_of_levels-total.ensures.is) in
+    omega (arith, c.div_ceil.ensures, quotient_small log c.last-counted.result a c.last-counted.result (c.last-counted.ensures ∙ ap last_value c.log.ensures) (omega arith) c.args.readout.now.log.short le)
 
 pub returns : goal.returns
 returns g c =
     let log = points c.args.readout.now.log in
-    let low : SFits w64 c.own-unit.result = record { sfits = c.own-unit.type_inv } in
-    let high : SFits w64 c.own-unit-2.result = record { sfits = c.own-unit-2.type_inv } in
+    let low : SFits w64 c.own_unit.result = record { sfits = c.own_unit.type_inv } in
+    let high : SFits w64 c.own_unit-2.result = record { sfits = c.own_unit-2.type_inv } in
     let so = mean_so g.T.OwnUnit.zero log (is_log_lem log c.args.readout.now.log.sound)
     c.last-counted.result (c.last-counted.ensures ∙ ap last_value c.log.ensures) (omega arith)
-    c.total-of-levels-total.result c.total-of-levels-total.ensures.is
-    c.zero-level-zero.result c.div-ceil.result c.zero-level-zero.ensures c.div-ceil.ensures
-    _ (to_z-of_z w64 _ low ∙ c.own-unit.ensures) (to_z-of_z w64 _ high ∙ c.own-unit-2.ensures) (c.answers.ensures ∙ ap (λ l. length l - 2) c.log-2.ensures) in
+    c.total_of_levels-total.result c.total_of_levels-total.ensures.is
+    c.zero_level-zero.result c.div_ceil.result c.zero_level-zero.ensures c.div_ceil.ensures
+    _ (to_z-of_z w64 _ low ∙ c.own_unit.ensures) (to_z-of_z w64 _ high ∙ c.own_unit-2.ensures) (c.answers.ensures ∙ ap (λ l. length l - 2) c.log-2.ensures) in
     record { is = so.0; sharp = so.1 }

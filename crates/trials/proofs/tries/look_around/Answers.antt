@@ -8,8 +8,8 @@ use Rattle.trials.proofs.Trying.{denied_so, take_number, accepted_so, gave, may_
 use Rattle.trials.proofs.Looking.{around_ok, around_err}
 use Rattle.trials.proofs.tries.look_around.Goals as goal
 
-pub put-back-requires : goal.put-back-requires
-put-back-requires c =
+pub put_back-requires : goal.put_back-requires
+put_back-requires c =
     let u = view c.take.new.self in
     let g = gave (view c.args.place.now) c.args.x c.in-Ok.ticket u _ c.in-Ok.ensures in
     let back = comes_back u c.in-Ok.ticket c.args.purpose _ _ c.in-Err-bring.field-0 c.in-Err-bring.ensures in
@@ -27,8 +27,8 @@ returns-in-Ok-bring c =
     let u = view c.take.new.self in
     let g = gave v c.args.x c.in-Ok.ticket u _ c.in-Ok.ensures in
     let done = goes u c.in-Ok.ticket c.args.purpose _ _ c.in-Ok-bring.ensures in
-    accepted_so (option_map number (take_denied v c.args.x)) (c.look-at-before.result, c.look-at.result) _ _ (ap (option_map number) g.clear)
-    (around_ok g c.args.purpose _ _ _ done.0 c.look-at-before.ensures c.look-at.ensures done.1)
+    accepted_so (option_map number (take_denied v c.args.x)) (c.look_at-before.result, c.look_at.result) _ _ (ap (option_map number) g.clear)
+    (around_ok g c.args.purpose _ _ _ done.0 c.look_at-before.ensures c.look_at.ensures done.1)
 
 pub returns-in-Err-bring : goal.returns-in-Err-bring
 returns-in-Err-bring c =
@@ -36,6 +36,6 @@ returns-in-Err-bring c =
     let u = view c.take.new.self in
     let g = gave v c.args.x c.in-Ok.ticket u _ c.in-Ok.ensures in
     let back = comes_back u c.in-Ok.ticket c.args.purpose _ _ c.in-Err-bring.field-0 c.in-Err-bring.ensures in
-    accepted_so (option_map number (take_denied v c.args.x)) (c.look-at-before.result, c.look-at-after.result) _ _ (ap (option_map number) g.clear)
-    (around_err g c.args.purpose _ _ _ _ back.0.tells c.look-at-before.ensures (c.look-at-after.ensures ∙ ap (λ p. seen (view p)) back.1)
-    (as_before g _ (c.put-back.ensures ∙ ap (λ p. withdrawn (view p)) back.1)))
+    accepted_so (option_map number (take_denied v c.args.x)) (c.look_at-before.result, c.look_at-after.result) _ _ (ap (option_map number) g.clear)
+    (around_err g c.args.purpose _ _ _ _ back.0.tells c.look_at-before.ensures (c.look_at-after.ensures ∙ ap (λ p. seen (view p)) back.1)
+    (as_before g _ (c.put_back.ensures ∙ ap (λ p. withdrawn (view p)) back.1)))

@@ -6,8 +6,8 @@ use Rattle.trials.specs.Tries.{number}
 use Rattle.trials.proofs.Trying.{take_number, gave, may_withdraw, as_before, none_while_out}
 use Rattle.trials.proofs.tries.second_take.Goals as goal
 
-pub put-back-requires : goal.put-back-requires
-put-back-requires c =
+pub put_back-requires : goal.put_back-requires
+put_back-requires c =
     let u = view c.take.new.self in
     let g = gave (view c.args.place.now) c.args.x c.in-Ok.first u _ c.in-Ok.ensures in
     let h = take_number (take_denied u c.args.y) c.in-Err-take.denial _ _ c.in-Err-take.ensures in
@@ -27,5 +27,5 @@ returns-in-Err-take c =
     let none = ap (λ o. unwrap_or (option_map number o) 4) g.clear in
     record {
       why = ap (λ o. unwrap_or o 4) four ∙ sym none;
-      same = as_before g _ (c.put-back.ensures ∙ ap (λ p. withdrawn (view p)) h.1);
+      same = as_before g _ (c.put_back.ensures ∙ ap (λ p. withdrawn (view p)) h.1);
     }

@@ -5,8 +5,8 @@ use Rattle.trials.specs.Tries.{try_denied}
 use Rattle.trials.proofs.Trying.{denied_so, denied_first, gave, may_withdraw, as_before, comes_back, then_brought}
 use Rattle.trials.proofs.tries.try_ask.Goals as goal
 
-pub put-back-requires : goal.put-back-requires
-put-back-requires c =
+pub put_back-requires : goal.put_back-requires
+put_back-requires c =
     let u = view c.take.new.self in
     let g = gave (view c.args.place.now) c.args.x c.in-Ok.ticket u _ c.in-Ok.ensures in
     let back = comes_back u c.in-Ok.ticket c.args.purpose _ _ c.in-Err-bring.field-0 c.in-Err-bring.ensures in
@@ -27,4 +27,4 @@ returns-in-Err-bring c =
     let back = comes_back u c.in-Ok.ticket c.args.purpose _ _ c.in-Err-bring.field-0 c.in-Err-bring.ensures in
     denied_so (try_denied v c.args.x w c.args.purpose) c.in-Err-bring.field-0.denial _ _
     (then_brought g w u c.args.purpose g.out ∙ back.0.tells)
-    (as_before g _ (c.put-back.ensures ∙ ap (λ p. withdrawn (view p)) back.1))
+    (as_before g _ (c.put_back.ensures ∙ ap (λ p. withdrawn (view p)) back.1))

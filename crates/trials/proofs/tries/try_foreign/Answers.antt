@@ -6,8 +6,8 @@ use Rattle.std.specs.Option.{option_map}
 use Rattle.trials.proofs.Trying.{denied_so, denied_first, accepted_so, gave, may_withdraw, as_before, comes_back, goes, then_brought}
 use Rattle.trials.proofs.tries.try_foreign.Goals as goal
 
-pub put-back-requires : goal.put-back-requires
-put-back-requires c =
+pub put_back-requires : goal.put_back-requires
+put_back-requires c =
     let g = gave (view c.args.owner.now) c.args.x c.in-Ok.ticket (view c.take.new.self) _ c.in-Ok.ensures in
     let back = comes_back (view c.args.other.now) c.in-Ok.ticket c.args.purpose _ _ c.in-Err-bring.field-0 c.in-Err-bring.ensures in
     may_withdraw g c.in-Err-bring.field-0.ticket back.0.mark back.0.at
@@ -37,4 +37,4 @@ returns-in-Err-bring c =
     let back = comes_back w c.in-Ok.ticket c.args.purpose _ _ c.in-Err-bring.field-0 c.in-Err-bring.ensures in
     denied_so (try_denied v c.args.x w c.args.purpose) c.in-Err-bring.field-0.denial _ _
     (then_brought g w w c.args.purpose refl ∙ back.0.tells)
-    (as_before g _ c.put-back.ensures, ap view back.1)
+    (as_before g _ c.put_back.ensures, ap view back.1)

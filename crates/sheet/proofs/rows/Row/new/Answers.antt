@@ -3,5 +3,5 @@ use Rattle.jobs.specs.Values.{listed}
 use Rattle.sheet.proofs.Bounds.{value_small}
 use Rattle.sheet.proofs.rows.Row.new.Goals as goal
 
-pub invariant-of-result : goal.invariant-of-result
-invariant-of-result c = (search rules, (value_small (listed c.args.values) (length (listed c.args.values) - 1) c.requires, tt))
+pub invariant_of-result : goal.invariant_of-result
+invariant_of-result c = (search rules, (value_small (listed c.args.values) (length (listed c.args.values) - 1) c.requires, tt))
