@@ -9,4 +9,4 @@ returns g c =
     reports (g.P.Plan.asks c.args.plan) (g.P.Plan.lawful c.args.plan) (g.L.Logger.table c.args.logger.now) (g.L.Logger.extent c.args.logger.now) c.args.questions (g.L.Logger.sound c.args.logger.now)
     _ c.asleep-line.ensures _ (ap g.P.Plan.asks c.new-noting.ensures.plan) 0 (view c.run.new.place) c.in-Ok.ran _ c.in-Ok.ensures.decided
     _ refl refl refl _ c.log.ensures c.promise.ensures
-    (subst (λ xs. Counts (g.L.Logger.table c.args.logger.now) (g.L.Logger.extent c.args.logger.now) xs c.count-into.new.counts) c.as-slice.ensures.are c.count-into.ensures)
+    (subst (λ xs. Counts (g.L.Logger.table c.args.logger.now) (g.L.Logger.extent c.args.logger.now) xs c.count_into.new.counts) c.as_slice.ensures.are c.count_into.ensures)

@@ -3,4 +3,4 @@ use Rattle.std.proofs.lemmas.Str.Pattern.{split_parts}
 use Rattle.records.proofs.kinds.at_comma.Goals as goal
 
 pub returns : goal.returns
-returns c = split_parts 44 c.args.text.now c.split-once.result c.split-once.ensures.cases (lit< tt)
+returns c = split_parts 44 c.args.text.now c.split_once.result c.split_once.ensures.cases (lit< tt)
