@@ -55,7 +55,7 @@ fn certify_text(rt: &HostRuntime, words: &str, text: &str, before: u64) -> anyho
             let why = why_misuse(misuse);
             eprintln!(rt; "usage: certificate climate|supply SPAN QUESTIONS < READINGS")?;
             eprintln!(rt; "with no arguments the first line of the input has the three words")?;
-            Err(why.into())
+            Err(anyhow!(why))
         }
     }
 }
