@@ -1,5 +1,5 @@
 -- A question that may be asked is answered without a denial. Assumes nothing.
-use Rattle.std.proofs.Common.{◌≡◌, ℕ, ◌<◌, ◌≤◌, Bool, true, false, not, ◌&&◌, ◌||◌, eqb, ltb, leb, List, Some, None, Ok, Err, Option, sym, refl, ap, ◌∙◌, subst, arith}
+use Rattle.std.proofs.Common.{◌≡◌, ℕ, ◌≤◌, false, not, eqb, ltb, leb, List, Some, None, Ok, Err, Option, refl, ap, ◌∙◌, subst, arith}
 use Rattle.std.proofs.lemmas.Bool.{le-ltb, le-leb, eq-eqb, or_from, and_from, cond-true}
 use Rattle.std.specs.Option.{option_map}
 use Rattle.denials.specs.declared.Denial.{Denial}

@@ -1,5 +1,5 @@
 -- A run so far, and what completes it. Assumes nothing.
-use Rattle.std.proofs.Common.{◌≡◌, ℕ, zero, suc, ◌+◌, ◌-◌, ◌<◌, ◌≤◌, List, [], ◌∷◌, length, Some, None, sym, refl, ap, ◌∙◌, subst, arith}
+use Rattle.std.proofs.Common.{◌≡◌, ℕ, zero, suc, ◌+◌, ◌-◌, ◌<◌, ◌≤◌, List, [], ◌∷◌, length, Some, None, sym, refl, subst, arith}
 use Rattle.loggers.specs.Meaning.{Sound}
 use Rattle.tables.specs.declared.points.Point.{Point}
 use Rattle.tables.specs.Log.{IsLog, Agrees, fresh}
@@ -9,7 +9,7 @@ use Rattle.tables.specs.Run.Run.{spent, done, asks}
 use Rattle.tables.specs.Table.{Table, NeverFalls}
 use Rattle.tables.proofs.Runs.{says, answer_stays}
 use Rattle.readout.specs.Views.{View}
-use Rattle.bench.specs.Runs.{Ready, Started, Completed, asked}
+use Rattle.bench.specs.Runs.{Ready, Completed, asked}
 
 -- from the view `start` to the view v, k questions were asked; whatever completes the run from v completes the whole
 pub record Sofar (plan : Plan) (t : Table) (N : ℕ) (start v : View) (k : ℕ) : Type 0 where

@@ -1,5 +1,5 @@
 -- What a run on the diagonal comes to. Assumes nothing.
-use Rattle.std.proofs.Common.{◌≡◌, ℕ, ◌+◌, ◌-◌, ◌*◌, ◌^◌, ◌<◌, ◌≤◌, Bool, false, ltb, List, Ok, sym, refl, ap, ◌∙◌, subst, mul-le-mul_left, arith}
+use Rattle.std.proofs.Common.{◌≡◌, ℕ, ◌-◌, ◌*◌, ◌^◌, ◌<◌, ◌≤◌, Bool, false, ltb, List, Ok, ap, ◌∙◌, subst, mul-le-mul_left, arith}
 use Rattle.std.proofs.lemmas.Nat.{mul-le}
 use Rattle.std.proofs.lemmas.Bool.{or_parts, ltb-false}
 use Rattle.denials.specs.Bounds.{bad_budget}
@@ -10,7 +10,7 @@ use Rattle.logs.specs.Buffers.{written}
 use Rattle.loggers.specs.declared.diagonals.Diagonal.{Diagonal}
 use Rattle.tables.specs.declared.points.Point.{Point}
 use Rattle.tables.specs.Least.{least_width}
-use Rattle.tables.specs.Log.{IsLog, span_of, low_table, high_table, width}
+use Rattle.tables.specs.Log.{span_of, low_table, high_table}
 use Rattle.tables.specs.Plan.{Plan, Lawful}
 use Rattle.tables.specs.Table.{diagonal}
 use Rattle.tables.specs.Theorems.{Asked}

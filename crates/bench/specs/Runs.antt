@@ -2,11 +2,10 @@
 use Rattle.std.specs.Prelude.{◌≡◌, ℕ, ◌+◌, ◌-◌, ◌<◌, Bool, true, false, List, [], ◌∷◌, length, None, Option}
 use Rattle.denials.specs.Bounds.{bad_budget}
 use Rattle.denials.specs.Checks.{first}
-use Rattle.tables.specs.declared.points.Point.{Point}
 use Rattle.tables.specs.Log.{IsLog, Agrees, SharpLimits, fresh, has, insert}
 use Rattle.tables.specs.Plan.{Plan}
 use Rattle.tables.specs.Run.{Run, WholeRun}
-use Rattle.tables.specs.Table.{Table, NeverFalls, Inner}
+use Rattle.tables.specs.Table.{Table, Inner}
 use Rattle.readout.specs.declared.events.Event.{Event}
 use Rattle.readout.specs.declared.events.Event.TheVariants.{Take, Answer}
 use Rattle.readout.specs.Calls.{opened}

@@ -17,7 +17,7 @@ use Rattle.readout.specs.declared.readouts.Readout.{Readout}
 use Rattle.readout.specs.Levels.{levels, last_everywhere}
 use Rattle.readout.specs.Views.{view}
 use Rattle.tables.specs.declared.points.Point.{Point}
-use Rattle.tables.specs.Log.{IsLog, span_of, first_value, last_value, low, high}
+use Rattle.tables.specs.Log.{IsLog, span_of, first_value, last_value}
 use Rattle.tables.specs.Plan.{Plan, equal_spacing}
 use Rattle.tables.specs.Table.{Table, sum_of}
 use Rattle.tables.specs.Theorems.{Asked, promise}

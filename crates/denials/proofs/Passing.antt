@@ -1,5 +1,5 @@
 -- A call that hands on what another call decided. Assumes nothing.
-use Rattle.std.proofs.Common.{◌≡◌, Some, None, Ok, Err, Option, Result}
+use Rattle.std.proofs.Common.{Some, None, Ok, Err, Option}
 use Rattle.denials.specs.Checks.{Decided}
 
 -- a denial handed on, with what else is known then

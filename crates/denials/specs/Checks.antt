@@ -1,5 +1,5 @@
 -- Checks in their order, and what a call makes of the first that fails. Assumes nothing.
-use Rattle.std.specs.Prelude.{◌≡◌, Bool, true, false, cond, List, [], ◌∷◌, Some, None, Ok, Err, Option, Result}
+use Rattle.std.specs.Prelude.{◌≡◌, Bool, cond, List, [], ◌∷◌, Some, None, Ok, Err, Option, Result}
 
 -- the first of a row of checks that fails, by what it answers
 abbrev pub first : {X : Type 0} → List (Bool × X) → Option X

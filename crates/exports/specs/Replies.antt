@@ -1,5 +1,5 @@
 -- What the replies of the exported calls say. Assumes nothing.
-use Rattle.std.specs.Prelude.{◌≡◌, ℕ, Bool, true, false, cond, List, Some, None, Option}
+use Rattle.std.specs.Prelude.{◌≡◌, ℕ, Bool, cond, List, Some, None, Option}
 use Rattle.bench.specs.declared.scoring.Widths.{Widths}
 use Rattle.bench.specs.Scores.{Scored}
 use Rattle.plans.specs.Widest.{widest_rectangle}

@@ -1,5 +1,5 @@
 -- Worked figures, derived from the definitions. Assumes nothing.
-use Rattle.std.specs.Prelude.{◌≡◌, ℕ, zero, suc, ◌+◌, ◌-◌, ◌*◌, List, [], ◌∷◌, ◌++◌, map, ℤ, pos, neg_ℤ}
+use Rattle.std.specs.Prelude.{◌≡◌, ℕ, zero, suc, ◌+◌, ◌-◌, ◌*◌, List, [], ◌∷◌, ◌++◌, map, pos, neg_ℤ}
 use Rattle.std.specs.Option.{option_to_list}
 use Rattle.tables.specs.declared.points.Point.{Point}
 use Rattle.tables.specs.Least.{least_width}

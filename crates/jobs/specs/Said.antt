@@ -1,5 +1,5 @@
 -- The jobs of the code, which keep a table's values in fixed memory. Assumes nothing.
-use Rattle.std.specs.Prelude.{ℕ, List, take, Some, None, Option}
+use Rattle.std.specs.Prelude.{Some, None, Option}
 use Rattle.jobs.specs.declared.jobs.Job.{Job as Kept}
 use Rattle.jobs.specs.declared.jobs.Job.TheVariants as kept
 use Rattle.jobs.specs.Values.{listed}

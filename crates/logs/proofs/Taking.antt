@@ -1,5 +1,5 @@
 -- What the search for a point's place decides, the log hands on. Assumes nothing.
-use Rattle.std.proofs.Common.{◌≡◌, ℕ, List, Ok, Err, sym, ◌∙◌, subst}
+use Rattle.std.proofs.Common.{◌≡◌, ℕ, List, Ok, Err, ◌∙◌, subst}
 use Rattle.std.specs.List.{insert as inserted}
 use Rattle.denials.proofs.Passing.{denied, accepted}
 use Rattle.denials.specs.Checks.{Decided}

@@ -1,5 +1,5 @@
 -- The numbers of a reply are small. Assumes nothing.
-use Rattle.std.proofs.Common.{◌≡◌, ℕ, zero, suc, ◌+◌, ◌-◌, ◌*◌, ◌^◌, ◌<◌, ◌≤◌, Bool, true, false, ltb, List, [], ◌∷◌, length, get_or, Ok, sym, refl, ap, ◌∙◌, subst, arith}
+use Rattle.std.proofs.Common.{◌≡◌, ℕ, zero, suc, ◌+◌, ◌-◌, ◌*◌, ◌^◌, ◌<◌, ◌≤◌, Bool, true, false, ltb, List, [], ◌∷◌, Ok, sym, refl, ap, ◌∙◌, subst, arith}
 use Rattle.std.specs.List.{AllByRecursion as All}
 use Rattle.std.proofs.lemmas.Nat.{mul-le}
 use Rattle.std.proofs.lemmas.Bool.{or_parts, ltb-false}
@@ -23,7 +23,6 @@ use Rattle.tables.specs.declared.points.Point.{Point}
 use Rattle.tables.specs.Log.{IsLog, Agrees, span_of, high}
 use Rattle.tables.specs.Plan.{Plan, Lawful}
 use Rattle.tables.specs.Table.{Table}
-use Rattle.tables.specs.Theorems.{Asked}
 use Rattle.tables.proofs.Ends.{last_value_lem}
 use Rattle.tables.proofs.Limits.{width_is_gaps}
 use Rattle.tables.proofs.Runs.{lawful_asks_all}

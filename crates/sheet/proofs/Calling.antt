@@ -1,5 +1,5 @@
 -- Every sheet prints, line by line, what the calls that its lines ask for give. Assumes nothing.
-use Rattle.std.proofs.Common.{◌≡◌, ℕ, ◌+◌, ◌-◌, ◌*◌, ◌<◌, ◌≤◌, Bool, true, false, ◌||◌, eqb, ltb, ◌↔◌, List, [], ◌∷◌, ◌++◌, length, is_some, Some, None, Option, sym, refl, ap, ◌∙◌, subst, mul-le-mul_left, arith}
+use Rattle.std.proofs.Common.{◌≡◌, ℕ, ◌+◌, ◌-◌, ◌<◌, ◌≤◌, Bool, true, false, eqb, ltb, ◌↔◌, List, [], ◌∷◌, length, is_some, Some, None, Option, sym, refl, ap, ◌∙◌, subst, mul-le-mul_left, arith}
 use Rattle.std.proofs.lemmas.Bool.{or_parts, ltb-false, eqb-false}
 use Rattle.bench.specs.Runs.{budget_denied}
 use Rattle.bench.proofs.Measuring.{budget_below}
@@ -9,22 +9,20 @@ use Rattle.jobs.specs.Jobs.{Job, diagonal, table, spacing, widest, asking, Fits,
 use Rattle.jobs.specs.Lines.{lines_of}
 use Rattle.jobs.proofs.Forming.{lines_are_exact}
 use Rattle.loggers.specs.Makings.{bad_rise, first_fall, placed, diagonal_denied, table_denied}
-use Rattle.loggers.specs.Meaning.{Sound, row_table, RowNeverFalls}
+use Rattle.loggers.specs.Meaning.{Sound, row_table}
 use Rattle.loggers.proofs.Falls.{first_fall_none}
 use Rattle.plans.specs.Lawful.{widest_is_lawful}
 use Rattle.plans.specs.Widest.{widest_rectangle}
-use Rattle.tables.specs.Log.{SharpLimits, Possible, fresh, low, high}
+use Rattle.tables.specs.Log.{Possible, fresh, low, high}
 use Rattle.tables.specs.Plan.{Plan, Lawful, equal_spacing}
 use Rattle.tables.specs.Table as tables
 use Rattle.tables.specs.Table.{Table}
-use Rattle.tables.specs.Theorems.{Asked}
 use Rattle.tables.proofs.Limits.{width_is_gaps, limits_are_sharp}
 use Rattle.tables.proofs.Runs.{lawful_asks_all}
 use Rattle.tables.proofs.Spacing.{spacing_is_lawful}
 use Rattle.tables.proofs.Unknown.{span_of_log}
 use Rattle.words.specs.Writing.{line_bytes}
-use Rattle.sheet.specs.declared.replies.Reply.{Reply}
-use Rattle.sheet.specs.declared.replies.Reply.TheVariants.{Silent, Ran, Denied}
+use Rattle.sheet.specs.declared.replies.Reply.TheVariants.{Ran}
 use Rattle.sheet.specs.Laws.{RunLine, Leads, other_form, denied, sets_diagonal, sets_table, runs_spacing, runs_widest, LineByLine, over, next, SheetsAreCalls}
 use Rattle.sheet.specs.Leading.{stands, does, unless, leads}
 use Rattle.sheet.specs.Printing.{shown, printed}

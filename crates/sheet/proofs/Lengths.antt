@@ -1,5 +1,5 @@
 -- What a line prints is at most 17 times as long as the line with its end. Assumes nothing.
-use Rattle.std.proofs.Common.{◌≡◌, ℕ, zero, suc, ◌+◌, ◌-◌, ◌*◌, ◌^◌, ◌<◌, ◌≤◌, List, [], ◌∷◌, ◌++◌, length, Some, None, decimal, Option, sym, refl, ap, ◌∙◌, arith, length-append}
+use Rattle.std.proofs.Common.{◌≡◌, ℕ, ◌+◌, ◌-◌, ◌*◌, ◌^◌, ◌<◌, ◌≤◌, List, [], ◌∷◌, length, Some, None, decimal, Option, sym, refl, ap, arith, length-append}
 use Rattle.std.proofs.lemmas.Fmt.{decimal_nonempty, length-decimal-le}
 use Rattle.jobs.specs.Jobs.{Job, diagonal, table, spacing, widest, asking, Fits, job_of}
 use Rattle.jobs.proofs.Forming.{lines_are_exact}

@@ -1,5 +1,5 @@
 -- A run of the library is the run that a sheet reports. Assumes nothing.
-use Rattle.std.proofs.Common.{◌≡◌, ℕ, zero, suc, List, [], ◌∷◌, length, Some, None, Option, sym, refl, ap, ◌∙◌}
+use Rattle.std.proofs.Common.{◌≡◌, ℕ, zero, suc, List, [], length, Some, None, Option, refl, ap, ◌∙◌}
 use Rattle.bench.specs.declared.running.Ran.{Ran}
 use Rattle.bench.specs.Runs.{RanOn}
 use Rattle.readout.specs.Views.{View}

@@ -1,5 +1,5 @@
 -- What a sheet prints, line by line, in terms of the calls of the library. Assumes nothing.
-use Rattle.std.specs.Prelude.{◌≡◌, ℕ, ◌+◌, ◌-◌, ◌≤◌, List, [], ◌∷◌, ◌++◌, length, Some, None, Option, ◌≢◌}
+use Rattle.std.specs.Prelude.{◌≡◌, ℕ, ◌+◌, ◌-◌, ◌≤◌, List, [], ◌∷◌, ◌++◌, length, Some, None, ◌≢◌}
 use Rattle.jobs.specs.Jobs.{Job, diagonal, table, spacing, widest, asking, Fits}
 use Rattle.jobs.specs.Lines.{lines_of}
 use Rattle.loggers.specs.Meaning.{row_table}

@@ -1,5 +1,5 @@
 -- What each line of a sheet leads to. Assumes nothing.
-use Rattle.std.specs.Prelude.{ℕ, ◌-◌, List, [], ◌∷◌, length, Some, None, Option}
+use Rattle.std.specs.Prelude.{ℕ, ◌-◌, List, [], length, Some, None, Option}
 use Rattle.bench.specs.Runs.{budget_denied}
 use Rattle.jobs.specs.Jobs.{Job, diagonal, table, spacing, widest}
 use Rattle.loggers.specs.Makings.{diagonal_denied, table_denied}

@@ -1,5 +1,5 @@
 -- How large the numbers of a reply can be. Assumes nothing.
-use Rattle.std.specs.Prelude.{ℕ, ◌^◌, ◌<◌, ◌≤◌, Some, None, Option}
+use Rattle.std.specs.Prelude.{◌^◌, ◌<◌, ◌≤◌, Some, None, Option}
 use Rattle.jobs.specs.Jobs.{Job, Fits}
 use Rattle.sheet.specs.declared.replies.Reply.{Reply}
 use Rattle.sheet.specs.declared.replies.Reply.TheVariants.{Silent, Ran, Denied}

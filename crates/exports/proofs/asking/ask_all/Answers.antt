@@ -1,4 +1,3 @@
-use Rattle.std.proofs.Common.{arith}
 use Rattle.readout.specs.Views.{view}
 use Rattle.exports.proofs.Rows.{one_more, all_asked}
 use Rattle.exports.proofs.asking.ask_all.Goals as goal

@@ -1,7 +1,6 @@
-use Rattle.std.proofs.Common.{◌≡◌, ◌+◌, length, drop, sym, ap, ◌∙◌, arith}
+use Rattle.std.proofs.Common.{◌+◌, drop, sym, ap, ◌∙◌}
 use Rattle.std.proofs.lemmas.List.{drop_all}
 use Rattle.std.proofs.lemmas.Bool.{ltb-false}
-use Rattle.words.specs.Words.{up_to_gap}
 use Rattle.jobs.specs.Jobs.{numbers_of, formed_of}
 use Rattle.jobs.specs.Reading.{tail_words}
 use Rattle.jobs.specs.Values.{listed}

@@ -1,6 +1,6 @@
-use Rattle.std.proofs.Common.{◌≡◌, ◌≤◌, false, sym, subst, arith, rules}
-use Rattle.tables.specs.Log.{has, low_table, high_table}
-use Rattle.logs.specs.Fits.{place, Goes}
+use Rattle.std.proofs.Common.{◌≡◌, false, sym, subst, arith, rules}
+use Rattle.tables.specs.Log.{has}
+use Rattle.logs.specs.Fits.{Goes}
 use Rattle.logs.proofs.Gaps.{goes}
 use Rattle.logs.proofs.search.fit.Goals as goal
 

@@ -1,4 +1,4 @@
-use Rattle.std.proofs.Common.{◌≡◌, length, sym, ap, ◌∙◌, arith}
+use Rattle.std.proofs.Common.{length, sym, ap, ◌∙◌, arith}
 use Rattle.words.specs.Writing.{overwritten}
 use Rattle.words.proofs.Overwriting.{overwritten_none}
 use Rattle.sheet.specs.Printing.{shown}
