@@ -1,6 +1,6 @@
 -- The sum of a counter's table, and the total of the levels. Assumes nothing.
 use Rattle.std.proofs.Common.{◌≡◌, ℕ, zero, suc, ◌+◌, ◌-◌, ◌*◌, ◌<◌, ◌≤◌, cond, leb, List, [], ◌∷◌, length, sym, refl, ap, ◌∙◌, ⊎_elim, arith}
-use Rattle.std.specs.List.{AllByRecursion as All}
+use Rattle.std.specs.List.{AllByRecursion}
 use Rattle.std.proofs.lemmas.List.Sums.{sum_by-cons}
 use Rattle.std.proofs.lemmas.Bool.{cases_lt, le-leb, lt-leb}
 use Rattle.tables.specs.Table.{Table, sum_from, sum_of}
@@ -88,7 +88,7 @@ counted_total level rs n =
     record { number = number; sum_le = rest.0; total = rest.1 }
 
 -- where no level is above n, all readings are counted
-all_counted : {X : Type 0} (level : X → ℕ) (rs : List X) (n : ℕ) → All (λ r. level r ≤ n) rs → counted_of level rs n ≡ rs
+all_counted : {X : Type 0} (level : X → ℕ) (rs : List X) (n : ℕ) → AllByRecursion (λ r. level r ≤ n) rs → counted_of level rs n ≡ rs
 all_counted level [] n h = refl
 all_counted level (r ∷ rs) n h = counted_more level r rs n h.0 ∙ ap (λ qs. r ∷ qs) (all_counted level rs n h.1)
 

@@ -1,6 +1,6 @@
 -- What the counts say of the total of levels. Assumes nothing.
 use Rattle.std.specs.Prelude.{◌≡◌, ℕ, ◌+◌, ◌-◌, ◌*◌, ◌≤◌, List, length, sum_by, filter, nat_le}
-use Rattle.std.specs.List.{AllByRecursion as All}
+use Rattle.std.specs.List.{AllByRecursion}
 use Rattle.tables.specs.Table.{sum_of}
 use Rattle.counters.specs.Counting.{counter_table}
 
@@ -27,4 +27,4 @@ CountedTotal {X} level = (rs : List X) (n : ℕ) → Counts level rs n
 -- and the total of the levels is b × (n + 1) less the sum of the table of span n
 abbrev pub TotalIsCounted : {X : Type 0} → (X → ℕ) → Type 0
 TotalIsCounted {X} level =
-    (rs : List X) (n : ℕ) → All (λ r. level r ≤ n) rs → (counter_table level rs n ≡ length rs) × (sum_of (counter_table level rs) n ≤ counter_table level rs n * (n + 1)) × (total_of_levels level rs ≡ counter_table level rs n * (n + 1) - sum_of (counter_table level rs) n)
+    (rs : List X) (n : ℕ) → AllByRecursion (λ r. level r ≤ n) rs → (counter_table level rs n ≡ length rs) × (sum_of (counter_table level rs) n ≤ counter_table level rs n * (n + 1)) × (total_of_levels level rs ≡ counter_table level rs n * (n + 1) - sum_of (counter_table level rs) n)

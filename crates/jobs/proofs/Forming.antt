@@ -1,6 +1,6 @@
 -- A line and the job that it asks for. Assumes nothing.
 use Rattle.std.proofs.Common.{◌≡◌, ℕ, ◌≤◌, Bool, true, false, cond, ◌&&◌, eqb, ltb, leb, List, [], ◌∷◌, ◌++◌, map, length, get_or, Some, None, decimal, Option, sym, refl, ap, ◌∙◌, arith}
-use Rattle.std.specs.List.{AllByRecursion as All}
+use Rattle.std.specs.List.{AllByRecursion}
 use Rattle.std.proofs.lemmas.Bool.{eqb-true, ne_eqb, and_parts, and_from, ltb-true, leb-true, lt-ltb, le-leb}
 use Rattle.words.specs.Numbers.{number_of}
 use Rattle.words.proofs.Decimals.{numbers_are_decimal, reads_back}
@@ -56,11 +56,11 @@ join-words (b ∷ bs) = go (eqb b 32) refl (join-words bs)
     go false e h = rw e (join-on_first b (words_of bs) ∙ ap (λ x. b ∷ x) h)
 
 -- number words after single spaces are the numbers so written
-spaced_numbers : (ws : List (List ℕ)) (ns : List ℕ) → numbers_of ws ≡ Some ns → (join_tail ws ≡ spaced ns) × All Small ns
+spaced_numbers : (ws : List (List ℕ)) (ns : List ℕ) → numbers_of ws ≡ Some ns → (join_tail ws ≡ spaced ns) × AllByRecursion Small ns
 spaced_numbers [] ns e = let z : ns ≡ [] = cc in rw z (refl, tt)
 spaced_numbers (w ∷ ws) ns e = go (number_of w) (numbers_of ws) refl refl e (spaced_numbers ws)
   where
-    go : (o : Option ℕ) (os : Option (List ℕ)) → number_of w ≡ o → numbers_of ws ≡ os → before o os ≡ Some ns → ((ms : List ℕ) → numbers_of ws ≡ Some ms → (join_tail ws ≡ spaced ms) × All Small ms) → (join_tail (w ∷ ws) ≡ spaced ns) × All Small ns
+    go : (o : Option ℕ) (os : Option (List ℕ)) → number_of w ≡ o → numbers_of ws ≡ os → before o os ≡ Some ns → ((ms : List ℕ) → numbers_of ws ≡ Some ms → (join_tail ws ≡ spaced ms) × AllByRecursion Small ms) → (join_tail (w ∷ ws) ≡ spaced ns) × AllByRecursion Small ns
     go None os p q r h = let z : ◌≡◌ {A = ℕ} 0 1 = cc in absurd (let y : ⊥ = omega arith in y)
     go (Some n) None p q r h = let z : ◌≡◌ {A = ℕ} 0 1 = cc in absurd (let y : ⊥ = omega arith in y)
     go (Some n) (Some ms) p q r h =
@@ -70,13 +70,13 @@ spaced_numbers (w ∷ ws) ns e = go (number_of w) (numbers_of ws) refl refl e (s
         rw is (ap (λ x. 32 ∷ (x ++ join_tail ws)) d.0 ∙ ap (λ x. 32 ∷ (decimal n ++ x)) t.0, (d.1, t.1))
 
 -- and the other way round
-numbers_spaced : (ns : List ℕ) → All Small ns → numbers_of (map decimal ns) ≡ Some ns
+numbers_spaced : (ns : List ℕ) → AllByRecursion Small ns → numbers_of (map decimal ns) ≡ Some ns
 numbers_spaced [] small = refl
 numbers_spaced (n ∷ ns) small = rw ((numbers_are_decimal (decimal n) n).1 (refl, small.0), numbers_spaced ns small.1) refl
 
 -- no byte is a space
 abbrev NoSpace : List ℕ → Type 0
-NoSpace w = All (λ b. eqb b 32 ≡ false) w
+NoSpace w = AllByRecursion (λ b. eqb b 32 ≡ false) w
 
 -- digits are no spaces
 no_space_digits : (w : List ℕ) → all_ascii_digits w ≡ true → NoSpace w
@@ -92,26 +92,26 @@ words_front [] rest ws h e = e
 words_front (b ∷ bs) rest ws h e = rw h.0 (ap (on_first b) (words_front bs rest ws h.1 e))
 
 -- the words of numbers after single spaces
-words-spaced : (ns : List ℕ) → All Small ns → words_of (spaced ns) ≡ [] ∷ map decimal ns
+words-spaced : (ns : List ℕ) → AllByRecursion Small ns → words_of (spaced ns) ≡ [] ∷ map decimal ns
 words-spaced [] small = refl
 words-spaced (n ∷ ns) small =
     ap (λ ws. [] ∷ ws)
     (words_front (decimal n) (spaced ns) (map decimal ns) (no_space_digits (decimal n) (reads_back n (omega (arith, small.0))).0) (words-spaced ns small.1))
 
 -- a letter with numbers asks for what they form
-spelled : (c : ℕ) (ns : List ℕ) → is_letter (c ∷ []) ≡ true → eqb c 32 ≡ false → All Small ns → job_of (c ∷ spaced ns) ≡ formed c ns
+spelled : (c : ℕ) (ns : List ℕ) → is_letter (c ∷ []) ≡ true → eqb c 32 ≡ false → AllByRecursion Small ns → job_of (c ∷ spaced ns) ≡ formed c ns
 spelled c ns letter dark small =
     ap job_in (words_front (c ∷ []) (spaced ns) (map decimal ns) (dark, tt) (words-spaced ns small)) ∙ rw (letter, numbers_spaced ns small) refl
 
 -- what `d` and two numbers ask for is the line so written
-diagonal_asks : (ns : List ℕ) → All Small ns → (job : Job) → diagonal_of ns ≡ Some job → (100 ∷ spaced ns ≡ asking job) × Fits job
+diagonal_asks : (ns : List ℕ) → AllByRecursion Small ns → (job : Job) → diagonal_of ns ≡ Some job → (100 ∷ spaced ns ≡ asking job) × Fits job
 diagonal_asks [] small job e = absurd (none_some e)
 diagonal_asks (n ∷ []) small job e = absurd (none_some e)
 diagonal_asks (n ∷ c ∷ []) small job e = let is : job ≡ diagonal n c = cc in rw is (refl, (small.0, small.1.0))
 diagonal_asks (n ∷ c ∷ v ∷ vs) small job e = absurd (none_some e)
 
 -- and what `t` and 1 to 64 ask for
-table_asks : (ns : List ℕ) → All Small ns → (job : Job) → table_of ns ≡ Some job → (116 ∷ spaced ns ≡ asking job) × Fits job
+table_asks : (ns : List ℕ) → AllByRecursion Small ns → (job : Job) → table_of ns ≡ Some job → (116 ∷ spaced ns ≡ asking job) × Fits job
 table_asks ns small job e = go (ltb 0 (length ns) && leb (length ns) 64) refl e
   where
     go : (few : Bool) → (ltb 0 (length ns) && leb (length ns) 64) ≡ few → cond few (Some (table ns)) None ≡ Some job → (116 ∷ spaced ns ≡ asking job) × Fits job
@@ -122,7 +122,7 @@ table_asks ns small job e = go (ltb 0 (length ns) && leb (length ns) 64) refl e
         rw is (refl, (omega (arith, ltb-true 0 (length ns) t.0), leb-true (length ns) 64 t.1, small))
 
 -- and what a run's letter and one number ask for
-run_asks : (run : ℕ → Job) (c : ℕ) → ((n : ℕ) → asking (run n) ≡ c ∷ spaced (n ∷ [])) → ((n : ℕ) → Small n → Fits (run n)) → (ns : List ℕ) → All Small ns → (job : Job) → run_of run ns ≡ Some job → (c ∷ spaced ns ≡ asking job) × Fits job
+run_asks : (run : ℕ → Job) (c : ℕ) → ((n : ℕ) → asking (run n) ≡ c ∷ spaced (n ∷ [])) → ((n : ℕ) → Small n → Fits (run n)) → (ns : List ℕ) → AllByRecursion Small ns → (job : Job) → run_of run ns ≡ Some job → (c ∷ spaced ns ≡ asking job) × Fits job
 run_asks run c writes fits [] small job e = absurd (none_some e)
 run_asks run c writes fits (n ∷ []) small job e = let is : job ≡ run n = cc in rw is (sym (writes n), fits n small.0)
 run_asks run c writes fits (n ∷ v ∷ vs) small job e = absurd (none_some e)
@@ -132,7 +132,7 @@ known : (c k : ℕ) (ns : List ℕ) (job : Job) → eqb c k ≡ true → (k ∷ 
 known c k ns job e h = (ap (λ x. x ∷ spaced ns) (eqb-true c k e) ∙ h.0, h.1)
 
 -- what a letter and numbers form is asked for by the line so written
-formed_asks : (c : ℕ) (ns : List ℕ) → All Small ns → (job : Job) → formed c ns ≡ Some job → (c ∷ spaced ns ≡ asking job) × Fits job
+formed_asks : (c : ℕ) (ns : List ℕ) → AllByRecursion Small ns → (job : Job) → formed c ns ≡ Some job → (c ∷ spaced ns ≡ asking job) × Fits job
 formed_asks c ns small job e = go (eqb c 100) (eqb c 116) (eqb c 101) (eqb c 119) refl refl refl refl e
   where
     go : (d t s w : Bool) → eqb c 100 ≡ d → eqb c 116 ≡ t → eqb c 101 ≡ s → eqb c 119 ≡ w → cond d (diagonal_of ns) (cond t (table_of ns) (cond s (run_of spacing ns) (cond w (run_of widest ns) None))) ≡ Some job → (c ∷ spaced ns ≡ asking job) × Fits job

@@ -1,6 +1,6 @@
 -- What a line of a sheet asks for. Assumes nothing.
 use Rattle.std.specs.Prelude.{◌≡◌, ℕ, ◌≤◌, cond, ◌&&◌, ◌↔◌, List, [], ◌∷◌, length, Some, None, Option, ◌==◌, nat_le, nat_lt, slice_index}
-use Rattle.std.specs.List.{AllByRecursion as All}
+use Rattle.std.specs.List.{AllByRecursion}
 use Rattle.words.specs.Numbers.{number_of}
 use Rattle.words.specs.Words.{is_letter}
 use Rattle.words.specs.Writing.{spaced}
@@ -76,7 +76,7 @@ asking (widest n) = 119 ∷ spaced (n ∷ [])
 -- the numbers of a job are at most 4,294,967,295, and a table has 1 to 64 of them
 abbrev pub Fits : Job → Type 0
 Fits (diagonal n c) = (n ≤ 4294967295) × (c ≤ 4294967295)
-Fits (table vs) = (1 ≤ length vs) × (length vs ≤ 64) × All (λ v. v ≤ 4294967295) vs
+Fits (table vs) = (1 ≤ length vs) × (length vs ≤ 64) × AllByRecursion (λ v. v ≤ 4294967295) vs
 Fits (spacing n) = n ≤ 4294967295
 Fits (widest n) = n ≤ 4294967295
 

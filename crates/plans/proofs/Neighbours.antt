@@ -1,6 +1,6 @@
 -- The gap before place i of a log. Assumes nothing.
 use Rattle.std.proofs.Common.{◌≡◌, ℕ, zero, suc, ◌+◌, ◌-◌, ◌<◌, ◌≤◌, List, [], ◌∷◌, length, drop, sym, refl, ap, ◌∙◌, subst, arith}
-use Rattle.std.specs.List.{AllByRecursion as All}
+use Rattle.std.specs.List.{AllByRecursion}
 use Rattle.std.proofs.lemmas.List.{drop_more, length-drop}
 use Rattle.tables.specs.declared.points.Point.{Point}
 use Rattle.logs.specs.Fits.{origin}
@@ -13,7 +13,7 @@ abbrev pub gap_to : List Point → ℕ → Gap
 gap_to log i = record { from = nth log (i - 1); to = nth log i }
 
 -- what holds of all gaps holds of the one that starts at place i
-from_place : (P : Gap → Type 0) (log : List Point) (i : ℕ) → suc i < length log → All P (gaps log) → P (record { from = nth log i; to = nth log (suc i) })
+from_place : (P : Gap → Type 0) (log : List Point) (i : ℕ) → suc i < length log → AllByRecursion P (gaps log) → P (record { from = nth log i; to = nth log (suc i) })
 from_place P [] i h all = absurd (let z : ⊥ = omega arith in z)
 from_place P (p ∷ []) i h all = absurd (let z : ⊥ = omega arith in z)
 from_place P (p ∷ (q ∷ ps)) zero h all = all.0
@@ -21,7 +21,7 @@ from_place P (p ∷ (q ∷ ps)) (suc i) h all = from_place P (q ∷ ps) i (omega
 
 module _ (log : List Point) (i : ℕ) (some : 0 < i) (h : i < length log) where
   -- what holds of all gaps holds of the one that ends at place i
-  pub at_gap : (P : Gap → Type 0) → All P (gaps log) → P (gap_to log i)
+  pub at_gap : (P : Gap → Type 0) → AllByRecursion P (gaps log) → P (gap_to log i)
   at_gap P all =
       subst (λ k. P (record { from = nth log (i - 1); to = nth log k })) {x = suc (i - 1)} {y = i} (omega arith)
       (from_place P log (i - 1) (omega arith) all)

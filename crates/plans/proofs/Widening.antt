@@ -1,6 +1,6 @@
 -- The widest gap is the widest, and a loop over the gaps finds it. Assumes nothing.
 use Rattle.std.proofs.Common.{◌≡◌, ℕ, ◌+◌, ◌-◌, ◌<◌, ◌≤◌, ltb, List, [], ◌∷◌, ◌++◌, length, drop, Some, None, fold, Option, sym, refl, ap, ◌∙◌, append_assoc, arith, MatchOption}
-use Rattle.std.specs.List.{AllByRecursion as All}
+use Rattle.std.specs.List.{AllByRecursion}
 use Rattle.std.proofs.ByRecursion.{All-weaker, All-push}
 use Rattle.std.proofs.lemmas.List.{append-nil}
 use Rattle.std.proofs.lemmas.Bool.{cond_both, ltb-true, ltb-false}
@@ -12,10 +12,10 @@ use Rattle.plans.proofs.Neighbours.{gap_to, gaps_more, gaps_none}
 
 -- o is what the widest gap of a row should be
 abbrev Best : List Gap → Option Gap → Type 0
-Best gs o = MatchOption o (All (λ h. width_of h ≡ 0) gs) (Widest gs)
+Best gs o = MatchOption o (AllByRecursion (λ h. width_of h ≡ 0) gs) (Widest gs)
 
 -- a gap after gaps that are all narrower is the widest
-takes : (gs : List Gap) (g : Gap) (w : ℕ) → w < width_of g → All (λ h. width_of h ≤ w) gs → Widest (gs ++ (g ∷ [])) g
+takes : (gs : List Gap) (g : Gap) (w : ℕ) → w < width_of g → AllByRecursion (λ h. width_of h ≤ w) gs → Widest (gs ++ (g ∷ [])) g
 takes gs g w wide b = record {
   before = gs;
   after = [];

@@ -2,7 +2,7 @@
 use Rattle.std.specs.Prelude.{◌≡◌, ℕ, zero, suc, ◌*◌, ◌<◌, false, List, [], ◌∷◌, IfSome, Some, None, fold, Option, ◌≢◌, nat_lt}
 use Rattle.std.proofs.Common.{◌∙◌, zero-mul, arith}
 use Rattle.std.specs.Option.{option_map}
-use Rattle.std.specs.List.{AllByRecursion as All}
+use Rattle.std.specs.List.{AllByRecursion}
 use Rattle.std.proofs.ByRecursion.{All-weaker}
 use Rattle.std.proofs.lemmas.Bool.{ne_eqb, cond-false, cond_both, ltb-true}
 use Rattle.tables.specs.declared.points.Point.{Point}
@@ -29,7 +29,7 @@ lacks_before p (q ∷ ps) x r h =
     (lacks x p (q ∷ ps) (λ e. omega arith) t.0, t.1)
 
 -- an argument inside a gap from p on lies after p and before the last point, and is no point's
-inside_lacks : (p : Point) (ps : List Point) → Rising p ps → All (λ g. (x : ℕ) → Inside g x → (p.at < x) × (x < (last_of p ps).at) × (has x (p ∷ ps) ≡ false)) (gaps (p ∷ ps))
+inside_lacks : (p : Point) (ps : List Point) → Rising p ps → AllByRecursion (λ g. (x : ℕ) → Inside g x → (p.at < x) × (x < (last_of p ps).at) × (has x (p ∷ ps) ≡ false)) (gaps (p ∷ ps))
 inside_lacks p [] r = tt
 inside_lacks p (q ∷ ps) r = (
   λ x i. let t = lacks_before q ps x r.2 i.1 in (i.0, t.1, lacks x p (q ∷ ps) (λ e. omega (arith, i.0)) t.0),
@@ -42,7 +42,7 @@ inside_lacks p (q ∷ ps) r = (
 )
 
 -- what lies inside a gap of a log may be asked
-pub inside_askable : (n : ℕ) (log : List Point) → IsLog n log → All (λ g. (x : ℕ) → Inside g x → Askable n log x) (gaps log)
+pub inside_askable : (n : ℕ) (log : List Point) → IsLog n log → AllByRecursion (λ g. (x : ℕ) → Inside g x → Askable n log x) (gaps log)
 inside_askable n [] is = tt
 inside_askable n (p ∷ ps) is =
     All-weaker _ _ (λ g h x i. let t = h x i in ((omega (arith, is.0, t.0), omega (arith, is.1, t.1)), t.2)) (gaps (p ∷ ps)) (inside_lacks p ps is.2)
@@ -57,7 +57,7 @@ middle_inside : (g : Gap) → 0 < width_of g → Inside g (middle g)
 middle_inside g h = let f = factor (inner_of g.from g.to) (rise g.from g.to) h in (omega arith, omega arith)
 
 -- of the gaps of a row, of which all have P, the one taken has P and a width
-taken : (P : Gap → Type 0) (o : Option Gap) (gs : List Gap) → IfSome o (λ g. P g × (0 < width_of g)) → All P gs → IfSome (fold wider o gs) (λ g. P g × (0 < width_of g))
+taken : (P : Gap → Type 0) (o : Option Gap) (gs : List Gap) → IfSome o (λ g. P g × (0 < width_of g)) → AllByRecursion P gs → IfSome (fold wider o gs) (λ g. P g × (0 < width_of g))
 taken P o [] h all = h
 taken P o (g ∷ gs) h all =
     taken P (wider o g) gs

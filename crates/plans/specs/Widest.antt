@@ -1,7 +1,7 @@
 -- The widest rectangle: the plan that asks in the middle of the widest gap. Assumes nothing.
 use Rattle.std.specs.Prelude.{◌≡◌, ℕ, ◌<◌, ◌≤◌, cond, List, ◌∷◌, ◌++◌, Some, None, fold, Option, MatchOption, nat_lt}
 use Rattle.std.specs.Option.{option_map}
-use Rattle.std.specs.List.{AllByRecursion as All}
+use Rattle.std.specs.List.{AllByRecursion}
 use Rattle.tables.specs.declared.points.Point.{Point}
 use Rattle.tables.specs.Plan.{Plan, lowest_unknown, or_else}
 use Rattle.plans.specs.declared.gaps.Gap.{Gap}
@@ -30,9 +30,9 @@ pub record Widest (gs : List Gap) (g : Gap) : Type 0 where
   pub after : List Gap
   pub stands : gs ≡ before ++ (g ∷ after)
   pub some : 0 < width_of g
-  pub no_wider : All (λ h. width_of h ≤ width_of g) gs
-  pub narrower : All (λ h. width_of h < width_of g) before
+  pub no_wider : AllByRecursion (λ h. width_of h ≤ width_of g) gs
+  pub narrower : AllByRecursion (λ h. width_of h < width_of g) before
 
 -- of every log the widest gap is the widest, and there is none only where every gap has width 0
 abbrev pub WidestIsWidest : Type 0
-WidestIsWidest = (log : List Point) → MatchOption (widest (gaps log)) (All (λ h. width_of h ≡ 0) (gaps log)) (Widest (gaps log))
+WidestIsWidest = (log : List Point) → MatchOption (widest (gaps log)) (AllByRecursion (λ h. width_of h ≡ 0) (gaps log)) (Widest (gaps log))

@@ -1,6 +1,6 @@
 -- The numbers of a reply are small. Assumes nothing.
 use Rattle.std.proofs.Common.{◌≡◌, ℕ, zero, suc, ◌+◌, ◌-◌, ◌*◌, ◌^◌, ◌<◌, ◌≤◌, Bool, true, false, ltb, List, [], ◌∷◌, Ok, sym, refl, ap, ◌∙◌, subst, arith}
-use Rattle.std.specs.List.{AllByRecursion as All}
+use Rattle.std.specs.List.{AllByRecursion}
 use Rattle.std.proofs.lemmas.Nat.{mul-le}
 use Rattle.std.proofs.lemmas.Bool.{or_parts, ltb-false}
 use Rattle.bench.specs.declared.running.Ran.{Ran}
@@ -29,7 +29,7 @@ use Rattle.tables.proofs.Runs.{lawful_asks_all}
 use Rattle.tables.proofs.Unknown.{span_of_log}
 
 -- values of a row of 32 bits, and what stands past its end
-pub value_small : (vs : List ℕ) (k : ℕ) → All (λ v. v ≤ 4294967295) vs → row_table vs k < 2 ^ 32
+pub value_small : (vs : List ℕ) (k : ℕ) → AllByRecursion (λ v. v ≤ 4294967295) vs → row_table vs k < 2 ^ 32
 value_small [] k small = omega arith
 value_small (v ∷ vs) zero small = omega (arith, small.0)
 value_small (v ∷ vs) (suc k) small = value_small vs k small.1

@@ -1,7 +1,7 @@
 -- Equal spacing: it is lawful, asks its stops, and how wide a log it leaves. Assumes nothing.
 use Rattle.std.proofs.Common.{◌≡◌, ℕ, zero, suc, ◌+◌, ◌-◌, ◌*◌, ◌/◌, ◌<◌, ◌≤◌, List, [], ◌∷◌, map, Some, ap, ◌∙◌, subst, mul-le-mul_right, mul-le-mul_left, zero-add, arith}
 use native.Mathlib.Nat.{mul-sub}
-use Rattle.std.specs.List.{range_with_len, AllByRecursion as All}
+use Rattle.std.specs.List.{range_with_len, AllByRecursion}
 use Rattle.tables.specs.declared.points.Point.{Point}
 use Rattle.tables.specs.Table.{Table, NeverFalls, diagonal}
 use Rattle.tables.specs.Log.{Rising, last_of, IsLog, span_of, fresh, Agrees, inner_of, width, gap_widths}
@@ -77,7 +77,7 @@ gap_more i m u v w z h k l = go (v - u) (omega arith)
     go d e = omega (arith, mul-le-mul_right d h, ap (λ x. m * x) e)
 
 -- where every gap has at most m inner arguments, the widths add up to at most m times the whole rise
-narrow_gaps : (m : ℕ) (p : Point) (ps : List Point) → Rising p ps → All (λ l. l - 1 ≤ m) (gap_lengths (p ∷ ps)) → gap_widths (p ∷ ps) + m * p.value ≤ m * (last_of p ps).value
+narrow_gaps : (m : ℕ) (p : Point) (ps : List Point) → Rising p ps → AllByRecursion (λ l. l - 1 ≤ m) (gap_lengths (p ∷ ps)) → gap_widths (p ∷ ps) + m * p.value ≤ m * (last_of p ps).value
 narrow_gaps m p [] r h = omega arith
 narrow_gaps m p (q ∷ ps) r h = gap_more (inner_of p q) m p.value q.value (gap_widths (q ∷ ps)) (m * (last_of q ps).value) h.0 r.1 (narrow_gaps m q ps r.2 h.1)
 
@@ -92,7 +92,7 @@ spacing_gaps t N n fits i =
     let climbs = cut_climbs N n fits in
     let p = point_of t (cut_at N (n + 1) 0) in
     let ps = spaced t (cut_at N (n + 1)) N 1 n in
-    let short = lengths_left t N n fits (All (λ l. l - 1 ≤ m)) tt (λ j ls h. (omega (arith, ceiling_step N (n + 1) j (omega arith)), h)) in
+    let short = lengths_left t N n fits (AllByRecursion (λ l. l - 1 ≤ m)) tt (λ j ls h. (omega (arith, ceiling_step N (n + 1) j (omega arith)), h)) in
     rise_times (gap_widths (p ∷ ps)) m (t 0) (t N) p.value (last_of p ps).value
     (ap t climbs.first)
     (ap (λ q. q.value) (last_spaced t (cut_at N (n + 1)) N n climbs p 1 n))

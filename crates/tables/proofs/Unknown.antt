@@ -1,6 +1,6 @@
 -- The lowest unknown argument, and plans that fall back on it, keep the law of plans. Assumes nothing.
 use Rattle.std.proofs.Common.{◌≡◌, ℕ, ◌-◌, ◌<◌, Bool, true, false, cond, not, ◌&&◌, ltb, List, [], ◌∷◌, length, get_or, IfSome, Some, None, Option, refl, subst, ⊎_elim, arith, MatchOption}
-use Rattle.std.specs.List.{range_with_len, AllByRecursion as All}
+use Rattle.std.specs.List.{range_with_len, AllByRecursion}
 use Rattle.std.proofs.lemmas.List.FromFn.{length-range_with_len, get_or-range_with_len}
 use Rattle.std.proofs.ByRecursion.{All-get_or}
 use Rattle.std.proofs.lemmas.Bool.{and_parts, and_from, not-true, not_from_false, ltb-true, lt-ltb, cases_Bool, both_ways}
@@ -34,7 +34,7 @@ askable_unknown log x h =
 
 -- no argument of a row is unknown
 abbrev NoneUnknown : List Point → List ℕ → Type 0
-NoneUnknown log = All (λ x. unknown log x ≡ false)
+NoneUnknown log = AllByRecursion (λ x. unknown log x ≡ false)
 
 -- one argument more at the front of a row that was searched
 first_more : (log : List Point) (x : ℕ) (xs : List ℕ) (b : Bool) → unknown log x ≡ b → (o : Option ℕ) → MatchOption o (NoneUnknown log xs) (Askable (span_of log) log) → MatchOption (cond b (Some x) o) (NoneUnknown log (x ∷ xs)) (Askable (span_of log) log)

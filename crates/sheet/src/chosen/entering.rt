@@ -1,6 +1,6 @@
 // What the jobs of a sheet do to the logger that is set.
 ghost use Rattle.std.specs.Prelude.{◌≡◌, ◌≤◌, [], Some};
-ghost use Rattle.std.specs.List.{AllByRecursion as All};
+ghost use Rattle.std.specs.List.{AllByRecursion};
 ghost use Rattle.jobs.specs.Said.{said};
 ghost use Rattle.jobs.specs.Values.{listed};
 ghost use Rattle.jobs.specs.Jobs.{diagonal, table, spacing, widest};
@@ -51,7 +51,7 @@ impl Chosen {
 
     // Sets a table.
     fn set_table(&mut self, values: Values) -> Reply
-        requires { All (λ v. v ≤ 4294967295) (listed values) }
+        requires { AllByRecursion (λ v. v ≤ 4294967295) (listed values) }
         ensures held { held self.new ≡ (leads (held self.old) (Some (table (listed values)))).0 }
         ensures reply { result ≡ (leads (held self.old) (Some (table (listed values)))).1 }
         ensures small { Small result }

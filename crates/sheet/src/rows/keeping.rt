@@ -1,6 +1,6 @@
 // Rows of values, accepted or denied as a table logger does.
 ghost use Rattle.std.specs.Prelude.{◌≡◌, ◌≤◌, length};
-ghost use Rattle.std.specs.List.{AllByRecursion as All};
+ghost use Rattle.std.specs.List.{AllByRecursion};
 ghost use Rattle.denials.specs.Checks.{Decided};
 ghost use Rattle.denials.specs.Told.{told};
 ghost use Rattle.jobs.specs.Values.{listed};
@@ -15,7 +15,7 @@ use loggers::TableLogger;
 impl Row {
     // Keeps the values, or denies them as a table logger does.
     pub(crate) fn new(values: Values) -> Result<Row, Denial>
-        requires { All (λ v. v ≤ 4294967295) (listed values) }
+        requires { AllByRecursion (λ v. v ≤ 4294967295) (listed values) }
         ensures { Decided told (table_denied (listed values)) result (λ row. row.values ≡ values) (Unit {0}) }
     {
         match accept(values.as_slice()) {
