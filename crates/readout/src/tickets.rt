@@ -5,7 +5,7 @@ ghost use Rattle.readout.specs.Tickets.{ticket_of};
 use denials::Denial;
 
 // Only a readout's take makes one, and only its answer and its withdrawal spend it.
-// Nobody else can make one or use one twice: that does not compile.
+// Nobody else can make one, use one twice or let one lapse (it has no `Drop`): that does not compile.
 pub struct Ticket {
     mark: u16,
     at: u32,
@@ -41,15 +41,6 @@ impl Ticket {
 
     // Ends the ticket, which has been answered or withdrawn.
     pub(crate) fn spend(self) {
-        let Ticket { mark: _, at: _ } = self;
-    }
-}
-
-// No ticket may lapse: the prover refuses every way on which one is let go.
-impl Drop for Ticket {
-    fn drop(self)
-        requires { ⊥ }
-    {
         let Ticket { mark: _, at: _ } = self;
     }
 }
