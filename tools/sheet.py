@@ -2,7 +2,7 @@
 
 With the path of the program as an argument, it compares the two on many sheets made at random instead:
 
-    python3 tools/sheet.py target/bin/jobsheet
+    python3 tools/sheet.py crates/jobsheet/out/jobsheet
 """
 import random
 import re

@@ -5,9 +5,9 @@ set -e
 cd "$(dirname "$0")/../.."
 out=target/bench
 mkdir -p $out
-rt staticlib exports >$out/proved.log 2>&1 || { tail -n 20 $out/proved.log; exit 1; }
-kit=$(dirname "$(dirname "$(rt doc)")")
+(cd crates/exports && rt lib) >$out/proved.log 2>&1 || { tail -n 20 $out/proved.log; exit 1; }
+kit=$(dirname "$(rt doc)")
 rustc --edition 2024 -C opt-level=3 --crate-type rlib --crate-name plain -o $out/libplain.rlib tools/bench/plain.rs
 rustc --edition 2024 -C opt-level=3 --crate-name bench --extern plain=$out/libplain.rlib -o $out/bench \
-    -C link-arg=target/staticlib/libexports.a -C link-arg="$kit/lib/librattle_c.a" tools/bench/main.rs
+    -C link-arg=crates/exports/out/libexports.a -C link-arg="$kit/c/libos_c.a" -C link-arg="$kit/c/liblibc_c.a" tools/bench/main.rs
 exec $out/bench "$@"

@@ -155,5 +155,5 @@ fn as_many_lines_as_bytes(rt: HostRuntime) {
     let mut out = DOTS;
     let lines = [b'\n'; 2_048];
     assert!(rt; run_sheet(&lines, &mut out) == Ok(19_373));
-    assert!(rt; &out[19_363..19_373] == b"? 2048 13\n");
+    assert!(rt; &out[19_363..19_373] == b"? 2048 13\n".as_slice());
 }
