@@ -4,19 +4,19 @@
 
 mod reading;
 
-use anyhow::anyhow;
 use reading::read_up_to;
 use sealed::run_sheet;
 use std::io::Write;
+use std::process::ExitCode;
 
-fn main(rt: HostRuntime) -> anyhow::Result<()> {
+fn main(rt: HostRuntime) -> anyhow::Result<ExitCode> {
     // one byte more than a sheet may have, so that a longer one is seen to be longer
     let mut bytes = [0; 2_049];
     let mut out = [0; 36_864];
     let count = read_up_to(&mut rt.stdin(), &mut bytes)?;
     match run_sheet(&bytes[..count], &mut out) {
         Ok(written) => rt.stdout().write_all(&out[..written])?,
-        Err(_) => return Err(anyhow!("the sheet is denied")),
+        Err(_) => return Ok(ExitCode::FAILURE),
     }
-    Ok(())
+    Ok(ExitCode::SUCCESS)
 }

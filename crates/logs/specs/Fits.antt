@@ -13,7 +13,7 @@ use Rattle.logs.specs.declared.misfits.Misfit.TheVariants.{NotInner, Known, Full
 
 -- what is wrong with the ends of a log, if anything
 abbrev pub bad_ends : ℕ → ℕ → ℕ → Option BadEnds
-bad_ends span first_value_lem last_value_lem = first ((bad_span span, Span) ∷ (nat_lt last_value_lem first_value_lem, Order) ∷ [])
+bad_ends span first_value last_value = first ((bad_span span, Span) ∷ (nat_lt last_value first_value, Order) ∷ [])
 
 -- what is wrong with a point for a log, if anything
 abbrev pub misfit : List Point → Point → Option Misfit
