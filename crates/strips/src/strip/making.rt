@@ -11,6 +11,7 @@ use denials::Denial;
 use loggers::Logger;
 
 // How many ones stand among the first x bits of a row of words.
+#[tactic(auto, using(crate::proofs::Counts::few_rest))]
 fn ones_before(words: &[u64], x: u32) -> u32
     requires { x ≤ 64 * length words.now }
     ensures { result ≡ strip_table words.now x }

@@ -1,6 +1,6 @@
-use Rattle.std.proofs.Common.{◌/◌, ◌%◌, get_or, arith}
+use Rattle.std.proofs.Common.{get_or, arith}
 use Rattle.std.proofs.lemmas.Nat.{ones-le}
-use Rattle.strips.proofs.Counts.{whole_ones, rest_ones, few_rest}
+use Rattle.strips.proofs.Counts.{whole_ones, rest_ones}
 use Rattle.strips.proofs.strip.making.ones_before.Goals as goal
 
 pub overflow_add-total : goal.overflow_add-total
@@ -16,11 +16,6 @@ loop-i-preserved c =
       whole_ones c.args.words.now c.loop-i.i c.loop-i.total (omega arith) (c.type_inv.words c.loop-i.i).fits c.loop-i.invariant.0,
       omega arith,
     )
-
-pub overflow_add-result : goal.overflow_add-result
-overflow_add-result c =
-    let few = few_rest (get_or c.args.words.now (c.args.x / 64) 0) (c.args.x % 64) (omega arith) in
-    omega (arith, few, c.ranges.x.fits)
 
 pub returns : goal.returns
 returns c = rest_ones c.args.words.now c.args.x c.loop-i.i c.loop-i.total (omega arith) (omega arith) c.loop-i.invariant.0
