@@ -1,5 +1,5 @@
 -- What a line does. Assumes nothing.
-use Rattle.std.specs.Prelude.{◌≡◌, ℕ, ◌-◌, List, length, Some, None, vec_items, Option}
+use Rattle.std.specs.Prelude.{◌≡◌, ℕ, ◌-◌, List, length, Some, vec_items, Option}
 use Rattle.std.specs.Option.{option_map}
 use Rattle.bench.specs.Runs.{budget_denied}
 use Rattle.denials.specs.Told.{told}

@@ -1,7 +1,6 @@
 -- What the words of a line say. Assumes nothing.
 use Rattle.std.specs.Prelude.{◌≡◌, ℕ, List, [], ◌∷◌, length, Some, None, vec_items, codes, Option, Vec, ◌≢◌}
 use Rattle.std.specs.declared.alloc.Global.{Global}
-use Rattle.ask.specs.declared.lines.Fault.{Fault}
 use Rattle.ask.specs.declared.lines.Fault.TheVariants as fault
 use Rattle.ask.specs.declared.lines.Kind.{Kind}
 use Rattle.ask.specs.declared.lines.Kind.TheVariants as kind

@@ -1,5 +1,5 @@
 -- The logger that is set. Assumes nothing.
-use Rattle.std.specs.Prelude.{ℕ, ◌-◌, List, length, vec_items}
+use Rattle.std.specs.Prelude.{ℕ, List, vec_items}
 use Rattle.ask.specs.declared.sessions.Chosen.{Chosen}
 use Rattle.ask.specs.declared.sessions.Chosen.TheVariants as chosen
 

@@ -1,5 +1,5 @@
 -- What is said of an answer follows what the log decided. Assumes nothing.
-use Rattle.std.proofs.Common.{◌≡◌, ℕ, Bool, true, List, Some, None, Ok, Err, Option, sym, refl, ap, ◌∙◌}
+use Rattle.std.proofs.Common.{◌≡◌, ℕ, Bool, true, List, Some, None, Ok, Err, Option, refl, ap}
 use Rattle.denials.specs.Checks.{Decided}
 use Rattle.tables.specs.declared.points.Point.{Point}
 use Rattle.logs.specs.declared.misfits.Misfit.{Misfit}
@@ -7,7 +7,7 @@ use Rattle.logs.specs.Fits.{misfit}
 use Rattle.limits.specs.declared.lines.Line.TheVariants as line
 use Rattle.limits.specs.declared.notes.Said.{Said}
 use Rattle.limits.specs.declared.notes.Said.TheVariants as says
-use Rattle.limits.specs.Noted.{or_refuse, said, kept}
+use Rattle.limits.specs.Noted.{or_refuse, said}
 
 -- accepted, and the points are those that the log then has
 accepts : (o : Option Misfit) (s : Said) (P : Type 0) (Q : Type 0) → Decided {X = Unit {0}} (λ e. e) o (Ok tt) (λ _. P) Q → (s ≡ or_refuse o says.Refused s) × P

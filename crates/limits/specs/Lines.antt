@@ -1,5 +1,5 @@
 -- What a line holds. Assumes nothing.
-use Rattle.std.specs.Prelude.{◌≡◌, Bool, true, false, ◌≢◌}
+use Rattle.std.specs.Prelude.{Bool, true, false, ◌≢◌}
 use Rattle.limits.specs.declared.lines.Line.{Line}
 use Rattle.limits.specs.declared.lines.Line.TheVariants.{Blank, Ends, Answer, NoNumber, Count}
 

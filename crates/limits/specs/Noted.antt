@@ -3,8 +3,6 @@ use Rattle.std.specs.Prelude.{◌≡◌, ◌-◌, Bool, true, false, List, lengt
 use Rattle.tables.specs.declared.points.Point.{Point}
 use Rattle.tables.specs.Log.{fresh, insert, span_of, first_value, last_value, SharpLimits}
 use Rattle.tables.specs.Theorems.{promise}
-use Rattle.logs.specs.declared.misfits.BadEnds.{BadEnds}
-use Rattle.logs.specs.declared.misfits.Misfit.{Misfit}
 use Rattle.logs.specs.Fits.{bad_ends, misfit}
 use Rattle.limits.specs.declared.lines.Line.{Line}
 use Rattle.limits.specs.declared.lines.Line.TheVariants as line

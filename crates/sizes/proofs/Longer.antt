@@ -1,5 +1,5 @@
 -- Rows that grow by one. Assumes nothing.
-use Rattle.std.proofs.Common.{◌≡◌, ℕ, ◌+◌, List, [], ◌∷◌, ◌++◌, sym, ap, ◌∙◌, add-one}
+use Rattle.std.proofs.Common.{◌≡◌, ℕ, ◌+◌, List, [], ◌∷◌, ◌++◌, ap, ◌∙◌, add-one}
 use Rattle.sizes.specs.Rows.{row}
 
 -- the row so far with one more at its end is the longer row

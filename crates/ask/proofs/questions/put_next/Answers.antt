@@ -1,4 +1,4 @@
-use Rattle.std.proofs.Common.{◌≡◌, add-one, take-suc-set}
+use Rattle.std.proofs.Common.{add-one, take-suc-set}
 use Rattle.ask.proofs.questions.put_next.Goals as goal
 
 pub returns : goal.returns

@@ -1,4 +1,4 @@
-use Rattle.std.proofs.Common.{◌≡◌, refl, ap, subst}
+use Rattle.std.proofs.Common.{refl, ap, subst}
 use Rattle.readout.specs.Views.{view}
 use Rattle.ask.specs.Reporting.{Counts}
 use Rattle.ask.proofs.Told.{reports}
