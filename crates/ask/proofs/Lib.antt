@@ -1,1 +1,2 @@
+pub mod WordLemmas
 pub mod Told

@@ -3,3 +3,4 @@ pub mod Noted
 pub mod Reporting
 pub mod Setting
 pub mod Entering
+pub mod Words

@@ -1,6 +1,7 @@
 // One line of input: what it asks for.
-ghost use Rattle.std.specs.Prelude.{◌≡◌};
+ghost use Rattle.std.specs.Prelude.{◌≡◌, IfOk, MatchResult};
 ghost use Rattle.ask.specs.Reading.{Says, line_of, diagonal_of, run_of};
+ghost use Rattle.ask.specs.Words.{is_remark, said_words, SayNumbers, IsFirstUnclear, ReadsWords, Reads};
 
 use std::alloc::{AllocError, Global};
 
@@ -45,28 +46,60 @@ enum Kind {
 }
 
 // Reads a line, or nothing where it is blank; a word that begins with `#` ends it.
-pub fn read_line(heap: Global, text: &str) -> Result<Option<Line<'_>>, AllocError> {
-    let mut words = text.split_whitespace();
-    let Some(first) = words.next() else {
+pub fn read_line(heap: Global, text: &str) -> Result<Option<Line<'_>>, AllocError>
+    ensures { IfOk result (Reads text.now) }
+{
+    let words: Vec<&str> = text.split_whitespace().collect(heap)?;
+    read_words(heap, before_remark(&words))
+}
+
+// The words before the first that begins with `#`.
+fn before_remark<'w, 'a>(words: &'w [&'a str]) -> &'w [&'a str]
+    ensures { result.now ≡ said_words words.now }
+{
+    for (i, word) in words.iter().enumerate() {
+        if begins_remark(word) {
+            return &words[..i];
+        }
+    }
+    words
+}
+
+// Whether a word begins with `#`.
+fn begins_remark(word: &str) -> bool
+    ensures { result ≡ is_remark word.now }
+{
+    word.starts_with('#')
+}
+
+// What words say, or nothing where there are none.
+fn read_words<'a>(heap: Global, words: &[&'a str]) -> Result<Option<Line<'a>>, AllocError>
+    ensures { IfOk result (ReadsWords words.now) }
+{
+    let [first, rest @ ..] = words else {
         return Ok(None);
     };
-    if first.starts_with('#') {
-        return Ok(None);
-    }
     let Some(kind) = kind_of(first) else {
         return Ok(Some(Line::Unclear(Fault::Unknown(first))));
     };
+    match numbers_of(heap, rest)? {
+        Ok(numbers) => Ok(Some(line_of(kind, numbers))),
+        Err(word) => Ok(Some(Line::Unclear(Fault::NoNumber(word)))),
+    }
+}
+
+// The numbers that words say, or the first word that is none.
+fn numbers_of<'a>(heap: Global, words: &[&'a str]) -> Result<Result<Vec<u32>, &'a str>, AllocError>
+    ensures { IfOk result (λ r. MatchResult r (λ v. SayNumbers words.now v.items) (λ w. IsFirstUnclear words.now w)) }
+{
     let mut numbers = Vec::new(heap);
     for word in words {
-        if word.starts_with('#') {
-            break;
+        match word.parse::<u32>() {
+            Ok(n) => numbers.push(n)?,
+            Err(_) => return Ok(Err(word)),
         }
-        let Ok(n) = word.parse::<u32>() else {
-            return Ok(Some(Line::Unclear(Fault::NoNumber(word))));
-        };
-        numbers.push(n)?;
     }
-    Ok(Some(line_of(kind, numbers)))
+    Ok(Ok(numbers))
 }
 
 // What a first word says.
