@@ -4,7 +4,7 @@ ghost use Rattle.certificate.specs.Units.{sign, degrees, volts};
 ghost use Rattle.certificate.specs.Amounts.{of_level, amount};
 
 use super::jobs::Kind;
-use counters::OwnUnit;
+use counters::{ClimateReading, OwnUnit, SupplyReading};
 use std::fmt;
 
 // Hundredths of a degree, shown as degrees: −12.34.
@@ -62,8 +62,8 @@ impl Amount {
         ensures { result ≡ of_level kind level }
     {
         let zero = match kind {
-            Kind::Climate => <counters::ClimateReading as OwnUnit>::zero_level(),
-            Kind::Supply => <counters::SupplyReading as OwnUnit>::zero_level(),
+            Kind::Climate => ClimateReading::zero_level(),
+            Kind::Supply => SupplyReading::zero_level(),
         };
         Amount {
             kind,
