@@ -1,7 +1,8 @@
 -- What a run on the diagonal comes to. Assumes nothing.
-use Rattle.std.proofs.Common.{◌≡◌, ℕ, ◌-◌, ◌*◌, ◌^◌, ◌<◌, ◌≤◌, Bool, false, ltb, List, Ok, ap, ◌∙◌, subst, mul-le-mul_left, arith}
+use Rattle.std.proofs.Common.{◌≡◌, ℕ, ◌-◌, ◌*◌, ◌^◌, ◌<◌, ◌≤◌, false, ltb, List, Ok, Result, ap, ◌∙◌, subst, mul-le-mul_left, arith}
 use Rattle.std.proofs.lemmas.Nat.{mul-le}
 use Rattle.std.proofs.lemmas.Bool.{or_parts, ltb-false}
+use Rattle.denials.specs.declared.Denial.{Denial}
 use Rattle.denials.specs.Bounds.{bad_budget}
 use Rattle.denials.specs.Checks.{Decided}
 use Rattle.denials.specs.Told.{told}
@@ -19,10 +20,11 @@ use Rattle.tables.proofs.LeastWidth.{least_le_square}
 use Rattle.tables.proofs.Limits.{width_is_gaps}
 use Rattle.tables.proofs.Runs.{lawful_asks_all}
 use Rattle.tables.proofs.Unknown.{span_of_log}
-use Rattle.readout.specs.Views.{View}
+use Rattle.readout.specs.declared.readouts.Readout.{Readout}
+use Rattle.readout.specs.Views.{View, view}
 use Rattle.bench.specs.declared.running.Ran.{Ran}
 use Rattle.bench.specs.declared.scoring.Widths.{Widths}
-use Rattle.bench.specs.Runs.{run_denied, RanOn}
+use Rattle.bench.specs.Runs.{budget_denied, RanOn}
 use Rattle.bench.specs.Scores.{score_denied, Fit, Scored}
 
 -- a budget that is accepted is below the span
@@ -36,37 +38,47 @@ least_on_fits c N n a b l e f g short fits = rw (e, g, f) (over (least_width N n
     over : (k : ℕ) → k ≤ N * N → c * k < 2 ^ 64
     over k h = omega (arith, mul-le-mul_left c h, mul-le (c * N) N (2 ^ 32) 1000000 (omega arith) short)
 
--- an accepted run is a run
-pub ran_so : (plan : Plan) (c N n m : ℕ) (v : View) (ran : Ran) (awake : Bool) (Q : Type 0) → Decided told (run_denied awake N n) (Ok ran) (RanOn plan (diagonal c) N n m v) Q → RanOn plan (diagonal c) N n m v ran
-ran_so plan c N n m v ran awake Q h = promised told (run_denied awake N n) ran (RanOn plan (diagonal c) N n m v) Q h
+module _ (plan : Plan) (lawful : Lawful plan) (c N n : ℕ) (some : 1 ≤ N) (ok : bad_budget N n ≡ false) where
+  -- what a run gave
+  abbrev Gave : Ran × Readout → Type 0
+  Gave r = RanOn plan (diagonal c) N n 0 (view r.1) r.0
 
-module _ (plan : Plan) (lawful : Lawful plan) (c N n m : ℕ) (few : n < N) (v : View) (ran : Ran) (on : RanOn plan (diagonal c) N n m v ran) where
-  asked_all_lem : Asked (diagonal c) N n on.questions v.points
-  asked_all_lem = lawful_asks_all plan lawful (diagonal c) N n (λ i j _ le _. mul-le-mul_left c le) few on.questions v.points on.run
+  module _ (out : Result (Ran × Readout) Denial) (r : Ran × Readout) (is : out ≡ Ok r) (decided : Decided told (budget_denied N n) out Gave (Unit {0})) where
+    abbrev v : View
+    v = view r.1
 
-  -- it leaves a log of the span
-  pub span_is : span_of v.points ≡ N
-  span_is = span_of_log N v.points asked_all_lem.is_log
+    few : n < N
+    few = budget_below N n some ok
 
-  -- its limits are in order
-  pub in_order : ran.low ≤ ran.high
-  in_order = omega (arith, on.limits.low_is, on.limits.high_is, (width_is_gaps N v.points asked_all_lem.is_log).0)
+    on : Gave r
+    on = promised told (budget_denied N n) r Gave (Unit {0}) (subst (λ o. Decided told (budget_denied N n) o Gave (Unit {0})) is decided)
 
-  -- and it is scored by them
-  pub scored :
-      (log : List Point) → log ≡ v.points → (s : Widths) → s.width ≡ ran.high - ran.low → s.least ≡ c * least_width N n →
-      (low-old low-new high-old high-new : List ℕ) → low-new ≡ written (low_table log) (span_of log) low-old → high-new ≡ written (high_table log) (span_of log) high-old →
-      Scored plan c N n low-old low-new high-old high-new s
-  scored log is s wide least low-old low-new high-old high-new low_row high_row = record {
-    questions = on.questions;
-    log = v.points;
-    run = on.run;
-    width_is = wide ∙ (λ i. on.limits.high_is i - on.limits.low_is i);
-    least_is = least;
-    low_row = low_row ∙ (λ i. written (low_table (is i)) ((ap span_of is ∙ span_is) i) low-old);
-    high_row = high_row ∙ (λ i. written (high_table (is i)) ((ap span_of is ∙ span_is) i) high-old);
-    benched = (bench plan lawful c N n few).1 on.questions v.points on.run;
-  }
+    asked_all_lem : Asked (diagonal c) N n on.questions v.points
+    asked_all_lem = lawful_asks_all plan lawful (diagonal c) N n (λ i j _ le _. mul-le-mul_left c le) few on.questions v.points on.run
+
+    -- it leaves a log of the span
+    pub span_is : span_of v.points ≡ N
+    span_is = span_of_log N v.points asked_all_lem.is_log
+
+    -- its limits are in order
+    pub in_order : r.0.low ≤ r.0.high
+    in_order = omega (arith, on.limits.low_is, on.limits.high_is, (width_is_gaps N v.points asked_all_lem.is_log).0)
+
+    -- and it is scored by them
+    pub scored :
+        (log : List Point) → log ≡ v.points → (s : Widths) → s.width ≡ r.0.high - r.0.low → s.least ≡ c * least_width N n →
+        (low-old low-new high-old high-new : List ℕ) → low-new ≡ written (low_table log) (span_of log) low-old → high-new ≡ written (high_table log) (span_of log) high-old →
+        Scored plan c N n low-old low-new high-old high-new s
+    scored log same s wide least low-old low-new high-old high-new low_row high_row = record {
+      questions = on.questions;
+      log = v.points;
+      run = on.run;
+      width_is = wide ∙ (λ i. on.limits.high_is i - on.limits.low_is i);
+      least_is = least;
+      low_row = low_row ∙ (λ i. written (low_table (same i)) ((ap span_of same ∙ span_is) i) low-old);
+      high_row = high_row ∙ (λ i. written (high_table (same i)) ((ap span_of same ∙ span_is) i) high-old);
+      benched = (bench plan lawful c N n few).1 on.questions v.points on.run;
+    }
 
 -- a score that was measured on a fit diagonal is the score asked for
 pub score_so :

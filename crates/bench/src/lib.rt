@@ -7,5 +7,5 @@ mod running;
 mod scoring;
 
 pub use lines::Line;
-pub use running::{Ran, run};
+pub use running::{Ran, read_out, run};
 pub use scoring::{Widths, score};

@@ -48,6 +48,22 @@ pub fn run<L: Logger, P: Plan>(
     }
 }
 
+// Runs a plan on a logger with so many questions, over a line and a place of its own:
+// what the run gives, and the readout that it leaves.
+pub fn read_out<L: Logger, P: Plan>(
+    logger: &L,
+    plan: &mut P,
+    questions: u32,
+) -> Result<(Ran, Readout), Denial>
+    ensures decided { Decided told (budget_denied (L.Logger.extent logger.now) questions) result (λ r. RanOn (P.Plan.asks plan.old) (L.Logger.table logger.now) (L.Logger.extent logger.now) questions 0 (view r.1) r.0) (Unit {0}) }
+    ensures plan { P.Plan.asks plan.new ≡ P.Plan.asks plan.old }
+{
+    let mut line = Line::asleep();
+    let mut place = Readout::new();
+    let ran = run(logger, plan, questions, 0, &mut line, &mut place)?;
+    Ok((ran, place))
+}
+
 // Opens the readout on the logger's span and ends: only the budget can stand in the way.
 fn open_on<L: Logger>(logger: &L, budget: u32, mark: u16, place: &mut Readout) -> Result<(), Denial>
     ensures { Decided told (budget_denied (L.Logger.extent logger.now) budget) result (λ _. view place.new ≡ opened (L.Logger.extent logger.now) (L.Logger.table logger.now 0) (L.Logger.table logger.now (L.Logger.extent logger.now)) budget mark) (place.new ≡ place.old) }

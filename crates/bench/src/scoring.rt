@@ -9,13 +9,11 @@ ghost use Rattle.tables.specs.Log.{span_of, low_table as low_table_of, high_tabl
 ghost use Rattle.bench.specs.Guarantee.{Guarantee};
 ghost use Rattle.bench.specs.Scores.{score_denied, Fit, Scored};
 
-use super::lines::Line;
-use super::running::run;
+use super::running::read_out;
 use denials::Denial;
 use loggers::{Diagonal, Logger};
 use logs::Log;
 use plans::Plan;
-use readout::Readout;
 use tables::least_width;
 
 // What a plan is scored by: the width it leaves on the diagonal, and the least width that any plan can leave there.
@@ -82,17 +80,12 @@ fn measure<P: Plan>(
     ensures scored { Scored (P.Plan.asks plan.old) diagonal.now.rise diagonal.now.span budget low_table.old low_table.new high_table.old high_table.new result }
     ensures plan { P.Plan.asks plan.new ≡ P.Plan.asks plan.old }
 {
-    let mut line = Line::asleep();
-    let mut place = Readout::new();
-    match run(diagonal, plan, budget, 0, &mut line, &mut place) {
-        Err(_) => unreachable(),
-        Ok(ran) => {
-            write_tables(place.log(), low_table, high_table);
-            Widths {
-                width: ran.high - ran.low,
-                least: least_on(diagonal, budget),
-            }
-        }
+    // the diagonal is fit, so no check of the run fails
+    let (ran, place) = read_out(diagonal, plan, budget).unwrap();
+    write_tables(place.log(), low_table, high_table);
+    Widths {
+        width: ran.high - ran.low,
+        least: least_on(diagonal, budget),
     }
 }
 
