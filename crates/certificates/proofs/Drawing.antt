@@ -1,24 +1,12 @@
 -- What the log of a readout by equal spacing certifies. Assumes nothing.
-use Rattle.std.proofs.Common.{◌≡◌, ℕ, ◌+◌, ◌-◌, ◌*◌, ◌≤◌, Bool, true, false, ltb, leb, List, [], ◌∷◌, length, Some, None, Ok, Option, sym, refl, ap, ◌∙◌, subst, arith, MatchOption}
+use Rattle.std.proofs.Common.{◌≡◌, ℕ, ◌+◌, ◌-◌, ◌*◌, ◌≤◌, leb, List, length, Some, None, Option, sym, refl, ap, ◌∙◌, subst, arith, MatchOption}
 use Rattle.std.proofs.lemmas.List.Sums.{count_by-le-length}
-use Rattle.bench.specs.declared.running.Ran.{Ran}
-use Rattle.bench.specs.Runs.{run_denied, budget_denied, RanOn}
-use Rattle.bench.proofs.Measuring.{budget_below}
 use Rattle.counters.specs.Counting.{counter_table, never_falls}
 use Rattle.counters.proofs.Totals.{counted_total}
-use Rattle.denials.specs.Bounds.{bad_budget}
-use Rattle.denials.specs.Checks.{Decided, first}
-use Rattle.denials.specs.Told.{told}
-use Rattle.denials.proofs.Passing.{promised}
-use Rattle.loggers.specs.Meaning.{Sound}
-use Rattle.plans.specs.declared.spacings.EqualSpacing.{EqualSpacing}
-use Rattle.plans.specs.Meanings.{spacing_of}
-use Rattle.readout.specs.declared.readouts.Readout.{Readout}
 use Rattle.readout.specs.Levels.{levels, last_everywhere}
-use Rattle.readout.specs.Views.{view}
 use Rattle.tables.specs.declared.points.Point.{Point}
 use Rattle.tables.specs.Log.{IsLog, span_of, first_value, last_value}
-use Rattle.tables.specs.Plan.{Plan, equal_spacing}
+use Rattle.tables.specs.Plan.{equal_spacing}
 use Rattle.tables.specs.Table.{Table, sum_of}
 use Rattle.tables.specs.Theorems.{Asked, promise}
 use Rattle.tables.proofs.Ends.{last_value_lem, log_promise}
@@ -31,22 +19,6 @@ use Rattle.certificates.specs.declared.means.Mean.{Mean}
 use Rattle.certificates.specs.Certified.{Certified, true_total}
 use Rattle.certificates.specs.Means.{mean_of, MeanWithin, SharpMean}
 use Rattle.certificates.specs.Readouts.{SpacedLog}
-
--- a plan that was made for n questions means equal spacing
-pub made : (n : ℕ) (p : EqualSpacing) → Decided told (first ((ltb 254 n, (3, [])) ∷ [])) (Ok p) (λ q. spacing_of q ≡ equal_spacing n) (Unit {0}) → spacing_of p ≡ equal_spacing n
-made n p h = promised told (first ((ltb 254 n, (3, [])) ∷ [])) p (λ q. spacing_of q ≡ equal_spacing n) (Unit {0}) h
-
-module _ (t : Table) (N n : ℕ) (sound : Sound t N) where
-  -- a run that is accepted with a budget that may be bad
-  accepts : (bad : Bool) → bad ≡ bad_budget N n → (m : ℕ) (place : Readout) (ran : Ran) (Q : Type 0) → Decided told (first ((bad, (3, [])) ∷ [])) (Ok ran) (RanOn (equal_spacing n) t N n m (view place)) Q → Decided told (first ((bad, (3, [])) ∷ [])) (Ok place) (λ p. SpacedLog t N n (view p).points) (Unit {0})
-  accepts true is m place ran Q on = absurd on
-  accepts false is m place ran Q on = record { questions = on.questions; run = on.run; few = budget_below N n sound.0 (sym is) }
-
-  -- the log of an accepted run of a plan that means equal spacing
-  pub spaced : (awake : Bool) → awake ≡ false → (means : Plan) → means ≡ equal_spacing n → (m : ℕ) (place : Readout) (ran : Ran) (Q : Type 0) → Decided told (run_denied awake N n) (Ok ran) (RanOn means t N n m (view place)) Q → Decided told (budget_denied N n) (Ok place) (λ p. SpacedLog t N n (view p).points) (Unit {0})
-  spaced awake asleep means e m place ran Q h =
-      accepts (bad_budget N n) refl m place ran Q
-      (subst (λ (k : Bool × Plan). Decided told (run_denied k.0 N n) (Ok ran) (RanOn k.1 t N n m (view place)) Q) (λ i. (asleep i, e i)) h)
 
 module _ {X : Type 0} (level : X → ℕ) (rs : List X) (N n : ℕ) (log : List Point) (s : SpacedLog (counter_table level rs) N n log) where
   -- the counter's table

@@ -10,7 +10,7 @@ ghost use Rattle.certificates.specs.Checks.{certify_denied};
 ghost use Rattle.certificates.specs.Readouts.{SpacedLog};
 
 use super::means::{Mean, mean_of_levels};
-use bench::{Line, run};
+use bench::read_out;
 use counters::{Counter, OwnUnit};
 use denials::Denial;
 use loggers::Logger;
@@ -46,21 +46,17 @@ pub fn certify<T: OwnUnit + Drop>(
 {
     let mut counter = Counter::new();
     counter.fill(readings, span)?;
-    let place = read_out(&counter, questions)?;
+    let place = read_by_spacing(&counter, questions)?;
     Ok(draw_up(readings, span, questions, &place))
 }
 
 // The readout of a logger by equal spacing.
-fn read_out<L: Logger>(logger: &L, questions: u32) -> Result<Readout, Denial>
+fn read_by_spacing<L: Logger>(logger: &L, questions: u32) -> Result<Readout, Denial>
     ensures { Decided told (budget_denied (L.Logger.extent logger.now) questions) result (λ place. SpacedLog (L.Logger.table logger.now) (L.Logger.extent logger.now) questions (view place).points) (Unit {0}) }
 {
     let mut plan = EqualSpacing::new(questions)?;
-    let mut line = Line::asleep();
-    let mut place = Readout::new();
-    match run(logger, &mut plan, questions, 0, &mut line, &mut place) {
-        Ok(_) => Ok(place),
-        Err(denial) => Err(denial),
-    }
+    let (_, place) = read_out(logger, &mut plan, questions)?;
+    Ok(place)
 }
 
 // The certificate of readings whose counter was read out.
