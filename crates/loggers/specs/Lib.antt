@@ -1,3 +1,4 @@
 pub mod Meaning
 pub mod Makings
 pub mod Held
+pub mod Choosing

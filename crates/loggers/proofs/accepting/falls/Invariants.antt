@@ -1,6 +1,6 @@
 use Rattle.std.proofs.Common.{◌≡◌, ◌-◌, ◌||◌, get_or, drop, is_some}
 use Rattle.loggers.specs.Makings.{fall_from, first_fall}
-use Rattle.loggers.proofs.table_logger.making.falls.Given as goal
+use Rattle.loggers.proofs.accepting.falls.Given as goal
 
 -- a fall was found, or what is left of the row has one, just where the whole row has one
 abbrev pub invariant-loop-i : goal.invariant-loop-i

@@ -1,7 +1,7 @@
 use Rattle.std.proofs.Common.{◌≡◌, Some, None, sym, ◌∙◌, add-sub_cancel}
 use Rattle.loggers.specs.Makings.{first_fall}
 use Rattle.loggers.proofs.Falls.{fall_here, fall_on, fall_over, not_some, told_none}
-use Rattle.loggers.proofs.table_logger.making.first_fall.Goals as goal
+use Rattle.loggers.proofs.accepting.first_fall.Goals as goal
 
 pub returns-then-not-falls : goal.returns-then-not-falls
 returns-then-not-falls c =

@@ -1,6 +1,6 @@
 use Rattle.std.proofs.Common.{◌≡◌, ◌-◌, get_or, drop}
 use Rattle.loggers.specs.Makings.{fall_from, first_fall}
-use Rattle.loggers.proofs.table_logger.making.first_fall.Given as goal
+use Rattle.loggers.proofs.accepting.first_fall.Given as goal
 
 -- what is left of the row gives what the whole row gives
 abbrev pub invariant-loop-i : goal.invariant-loop-i
