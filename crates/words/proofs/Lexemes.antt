@@ -1,7 +1,8 @@
 -- Words as parts of a sheet. Assumes nothing.
-use Rattle.std.proofs.Common.{◌≡◌, ℕ, suc, ◌+◌, ◌-◌, ◌<◌, ◌≤◌, Bool, true, false, cond, ◌||◌, eqb, List, [], ◌∷◌, length, get_or, take, drop, Some, None, sym, refl, ap, ◌∙◌, inl, inr, arith}
-use Rattle.std.proofs.lemmas.List.{at_drop_more, at_drop_all}
-use Rattle.std.proofs.lemmas.Bool.{eqb-true, ne_eqb}
+use Rattle.std.proofs.Common.{◌≡◌, ℕ, ◌+◌, Bool, true, false, cond, ◌||◌, eqb, List, [], ◌∷◌, length, take, drop, Some, None, sym, refl, ap, ◌∙◌, inl, inr, arith}
+use Rattle.std.proofs.lemmas.Bool.{eqb-true}
+use Rattle.std.proofs.lemmas.List.Recursion.{is_position_or_len}
+use Rattle.std.specs.List.{position_or_len}
 use Rattle.words.specs.Numbers.{is_number}
 use Rattle.words.specs.Words.{Lexeme, letter, number, line_end, up_to_gap, is_letter, word_of, lexed, bytes_of, place_of, WordsAreParts, OfItsKind, WordsAreOfTheirKind}
 
@@ -46,38 +47,17 @@ words_are_parts sheet at l e =
 pub words_are_of_their_kind : WordsAreOfTheirKind
 words_are_of_their_kind sheet at l e = (lexed_fits (drop at sheet) at l e).2
 
--- at a gap no bytes come before it; elsewhere one more than from the next place on; at the sheet's end none
-pub gap_here : (s : List ℕ) (i : ℕ) → i < length s → (eqb (get_or s i 0) 32 || eqb (get_or s i 0) 10) ≡ true → length (up_to_gap (drop i s)) ≡ 0
-gap_here s i lt t =
-    let e : length (up_to_gap (drop i s)) ≡ length (cond (eqb (get_or s i 0) 32 || eqb (get_or s i 0) 10) [] (get_or s i 0 ∷ up_to_gap (drop (i + 1) s))) =
-    at_drop_more (λ r. length (up_to_gap r)) s i 0 lt in
-    e ∙ ap (λ b. length (cond b [] (get_or s i 0 ∷ up_to_gap (drop (i + 1) s)))) t
+-- the first byte that ends a word
+abbrev pub ends_word : ℕ → Bool
+ends_word b = eqb b 32 || eqb b 10
 
-pub gap_more : (s : List ℕ) (i : ℕ) → i < length s → (eqb (get_or s i 0) 32 || eqb (get_or s i 0) 10) ≡ false → length (up_to_gap (drop i s)) ≡ suc (length (up_to_gap (drop (i + 1) s)))
-gap_more s i lt t =
-    let e : length (up_to_gap (drop i s)) ≡ length (cond (eqb (get_or s i 0) 32 || eqb (get_or s i 0) 10) [] (get_or s i 0 ∷ up_to_gap (drop (i + 1) s))) =
-    at_drop_more (λ r. length (up_to_gap r)) s i 0 lt in
-    e ∙ ap (λ b. length (cond b [] (get_or s i 0 ∷ up_to_gap (drop (i + 1) s)))) t
-
-pub gap_end : (s : List ℕ) (i : ℕ) → length s ≤ i → length (up_to_gap (drop i s)) ≡ 0
-gap_end s i le = at_drop_all (λ r. length (up_to_gap r)) s i le
-
--- what stands past the sheet's end, at byte 10, and elsewhere
-pub lexed-past : (s w : List ℕ) (at : ℕ) → length s ≤ at → length w ≡ 0 → Some (line_end w at) ≡ lexed (drop at s) at
-lexed-past s [] at le none = sym (at_drop_all (λ r. lexed r at) s at le)
-lexed-past s (b ∷ w) at le none = absurd (let z : ⊥ = omega arith in z)
-
-pub lexed_end : (s : List ℕ) (at : ℕ) → at < length s → get_or s at 0 ≡ 10 → Some (line_end (take (at + 1 - at) (drop at s)) at) ≡ lexed (drop at s) at
-lexed_end s at lt ten =
-    let one : at + 1 - at ≡ 1 = omega arith in
-    rw (one, at_drop_more (λ r. r) s at 0 lt, ten) refl
-
-pub lexed-word : (s : List ℕ) (at stop : ℕ) → at < length s → (get_or s at 0 ≡ 10 → ⊥) → stop ≡ at + length (up_to_gap (drop at s)) → word_of (take (stop - at) (drop at s)) at ≡ lexed (drop at s) at
-lexed-word s at stop lt ne e =
-    let long : stop - at ≡ length (up_to_gap (drop at s)) = omega arith in
-    let other : eqb (get_or s at 0) 10 ≡ false = ne_eqb (get_or s at 0) 10 ne in
-    let word : take (stop - at) (drop at s) ≡ up_to_gap (drop at s) = ap (λ n. take n (drop at s)) long ∙ sym (gap_front (drop at s)) in
-    let there : lexed (drop at s) at ≡ cond (eqb (get_or s at 0) 10) (Some (line_end (10 ∷ []) at)) (word_of (up_to_gap (get_or s at 0 ∷ drop (at + 1) s)) at) =
-    at_drop_more (λ r. lexed r at) s at 0 lt in
-    ap (λ w. word_of w at) (word ∙ at_drop_more up_to_gap s at 0 lt)
-    ∙ sym (there ∙ ap (λ b. cond b (Some (line_end (10 ∷ []) at)) (word_of (up_to_gap (get_or s at 0 ∷ drop (at + 1) s)) at)) other)
+-- the bytes before it are those up to the gap
+pub before_gap : (bs : List ℕ) → take (position_or_len ends_word bs) bs ≡ up_to_gap bs
+before_gap bs = ap (λ n. take n bs) (sym (is_position_or_len (λ xs. length (up_to_gap xs)) ends_word refl step bs)) ∙ sym (gap_front bs)
+  where
+    step : (b : ℕ) (xs : List ℕ) → length (up_to_gap (b ∷ xs)) ≡ cond (ends_word b) 0 (1 + length (up_to_gap xs))
+    step b xs = go (ends_word b)
+      where
+        go : (t : Bool) → length (cond t [] (b ∷ up_to_gap xs)) ≡ cond t 0 (1 + length (up_to_gap xs))
+        go true = refl
+        go false = omega arith

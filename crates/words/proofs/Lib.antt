@@ -1,6 +1,7 @@
+pub mod Beginning
 pub mod Decimals
+pub mod Finding
 pub mod Lexemes
 pub mod Lines
-pub mod Overwriting
 pub mod Places
 pub mod Reading

@@ -1,11 +1,12 @@
 -- Printed lines, number by number. Assumes nothing.
-use Rattle.std.proofs.Common.{◌≡◌, ℕ, zero, suc, ◌+◌, ◌*◌, ◌^◌, ◌<◌, ◌≤◌, true, false, cond, ◌&&◌, ltb, leb, List, [], ◌∷◌, ◌++◌, length, get_or, take, drop, set, Some, None, decimal, sym, ap, ◌∙◌, append_assoc, append-nil, arith, length-append}
+use Rattle.std.proofs.Common.{◌≡◌, ℕ, zero, suc, ◌+◌, ◌-◌, ◌*◌, ◌^◌, ◌<◌, ◌≤◌, true, false, ◌&&◌, ltb, leb, List, [], ◌∷◌, ◌++◌, length, get_or, take, drop, set, decimal, sym, refl, ap, ◌∙◌, append_assoc, append-nil, arith, length-append}
 use native.Mathlib.Nat.{pow-le-pow_right}
 use Rattle.std.proofs.lemmas.Fmt.{length-decimal-le}
-use Rattle.std.proofs.lemmas.List.{at_drop_more, at_drop_all, take_more, take_all}
-use Rattle.std.proofs.lemmas.Bool.{and_parts, ltb-true, leb-true, lt-ltb, le-ltb, cond-true}
-use Rattle.words.specs.Writing.{overwritten, spaced, line_bytes, all_short, has_room}
-use Rattle.words.proofs.Overwriting.{overwritten_twice, set-overwritten, length-overwritten}
+use Rattle.std.proofs.lemmas.List.{at_drop_more, at_drop_all, take_more}
+use Rattle.std.proofs.lemmas.Bool.{and_parts, ltb-true, leb-true, lt-ltb, le-ltb}
+use borrow.Rule.Slice.PartMut.{put_mid}
+use Rattle.words.proofs.Beginning.{begun_push, begun_after}
+use Rattle.words.specs.Writing.{begun, spaced, line_bytes, all_short, has_room}
 
 -- a number below 10^k has at most k digits
 pub length_decimal_short : (k n : ℕ) → 0 < k → k ≤ 19 → n < 10 ^ k → length (decimal n) ≤ k
@@ -61,60 +62,34 @@ spaced_push (m ∷ ns) n =
     ap (λ xs. 32 ∷ (decimal m ++ xs)) (spaced_push ns n)
     ∙ ap (λ xs. 32 ∷ xs) (sym (append_assoc (decimal m) (spaced ns) (32 ∷ decimal n)))
 
--- i numbers are written from the place `at` on, up to the place `to`
-abbrev pub Spaced : ℕ → List ℕ → List ℕ → ℕ → ℕ → List ℕ → Type 0
-Spaced at ns row i to out = (out ≡ overwritten at (spaced (take i ns)) row) × (to ≡ at + length (spaced (take i ns))) × (to ≤ at + 17 * i)
+-- i numbers are written, up to the place `to`
+abbrev pub Spaced : List ℕ → List ℕ → ℕ → ℕ → List ℕ → Type 0
+Spaced ns row i to out = (to ≡ length (spaced (take i ns))) × (to ≤ 17 * i) × (out ≡ begun (spaced (take i ns)) row)
 
-pub spaced_more : (at : ℕ) (ns row : List ℕ) (i to to' : ℕ) (out out' : List ℕ) → i < length ns → all_short ns ≡ true → at + 17 * length ns ≤ length row → length out ≡ length row
-    → Spaced at ns row i to out → to' ≡ to + 1 + length (decimal (get_or ns i 0)) → out' ≡ overwritten (to + 1) (decimal (get_or ns i 0)) (set out to 32) → Spaced at ns row (i + 1) to' out'
-spaced_more at ns row i to to' out out' lt short room same inv there made =
+-- one number more is written after the first ones
+pub spaced_more : (ns row : List ℕ) (i to : ℕ) (out part : List ℕ) → i < length ns → all_short ns ≡ true → 17 * length ns ≤ length row → length out ≡ length row → Spaced ns row i to out
+    → part ≡ begun (decimal (get_or ns i 0)) (take (length (set out to 32) - (to + 1)) (drop (to + 1) (set out to 32)))
+    → Spaced ns row (i + 1) (to + (1 + length (decimal (get_or ns i 0)))) (put_mid (to + 1) (length (set out to 32) - (to + 1)) (set out to 32) part)
+spaced_more ns row i to out part lt short room same inv made =
     let n = get_or ns i 0 in
     let few : length (decimal n) ≤ 16 = short_decimal n (short_at ns i short lt) in
-    let next : spaced (take (i + 1) ns) ≡ spaced (take i ns) ++ (32 ∷ decimal n) =
-    ap spaced (take_more ns i 0 lt) ∙ spaced_push (take i ns) n in
-    let long : length (spaced (take (i + 1) ns)) ≡ length (spaced (take i ns)) + (1 + length (decimal n)) =
-    ap length next ∙ length-append (spaced (take i ns)) (32 ∷ decimal n) ∙ omega arith in
-    let one : set out to 32 ≡ overwritten to (32 ∷ []) out = set-overwritten to 32 out (omega (arith, inv.2)) in
-    let two : overwritten (to + 1) (decimal n) (overwritten to (32 ∷ []) out) ≡ overwritten to (32 ∷ decimal n) out = overwritten_twice to (32 ∷ []) (decimal n) out in
-    let three : overwritten (at + length (spaced (take i ns))) (32 ∷ decimal n) (overwritten at (spaced (take i ns)) row) ≡ overwritten at (spaced (take i ns) ++ (32 ∷ decimal n)) row =
-    overwritten_twice at (spaced (take i ns)) (32 ∷ decimal n) row in
-    let four : overwritten to (32 ∷ decimal n) out ≡ overwritten (at + length (spaced (take i ns))) (32 ∷ decimal n) (overwritten at (spaced (take i ns)) row) =
-    ap (λ m. overwritten m (32 ∷ decimal n) out) inv.1 ∙ ap (overwritten (at + length (spaced (take i ns))) (32 ∷ decimal n)) inv.0 in (
-      made ∙ ap (overwritten (to + 1) (decimal n)) one ∙ two ∙ four ∙ three ∙ ap (λ xs. overwritten at xs row) (sym next),
-      omega (arith, inv.1, long, there),
-      omega (arith, inv.2, few, there),
+    let next : spaced (take (i + 1) ns) ≡ spaced (take i ns) ++ (32 ∷ decimal n) = ap spaced (take_more ns i 0 lt) ∙ spaced_push (take i ns) n in
+    let space : set out to 32 ≡ begun (spaced (take i ns) ++ (32 ∷ [])) row =
+    ap (λ xs. set xs to 32) inv.2 ∙ ap (λ m. set (begun (spaced (take i ns)) row) m 32) inv.0 ∙ begun_push (spaced (take i ns)) row 32 (omega (arith, inv.0, inv.1)) in (
+      omega (arith, inv.0, ap length next, length-append (spaced (take i ns)) (32 ∷ decimal n)),
+      omega (arith, inv.1, few),
+      begun_after (spaced (take i ns) ++ (32 ∷ [])) (decimal n) row (set out to 32) part (to + 1) _ space (omega (arith, inv.0, length-append (spaced (take i ns)) (32 ∷ []))) (omega (arith, inv.1)) refl made
+          ∙ ap (λ xs. begun xs row) (append_assoc (spaced (take i ns)) (32 ∷ []) (decimal n) ∙ sym next),
     )
-
--- all numbers are written
-pub spaced_all : (at : ℕ) (ns row : List ℕ) (i to : ℕ) (out : List ℕ) → length ns ≤ i → i ≤ length ns → Spaced at ns row i to out
-    → (out ≡ overwritten at (spaced ns) row) × (to ≡ at + length (spaced ns)) × (to ≤ at + 17 * length ns)
-spaced_all at ns row i to out ge le inv =
-    let all : take i ns ≡ ns = take_all i ns ge in
-    (inv.0 ∙ ap (λ xs. overwritten at (spaced xs) row) all, inv.1 ∙ ap (λ xs. at + length (spaced xs)) all, omega (arith, inv.2))
 
 -- the whole line: its letter, its numbers and its end
-pub line_written : (c at : ℕ) (ns row : List ℕ) → all_short ns ≡ true → at + (17 * length ns + 2) ≤ length row
-    → set (overwritten (at + 1) (spaced ns) (set row at c)) (at + 1 + length (spaced ns)) 10 ≡ overwritten at (line_bytes c ns) row
-line_written c at ns row short room =
-    let few = length_spaced_le ns short in
-    let one : set row at c ≡ overwritten at (c ∷ []) row = set-overwritten at c row (omega arith) in
-    let two : overwritten (at + 1) (spaced ns) (overwritten at (c ∷ []) row) ≡ overwritten at (c ∷ spaced ns) row = overwritten_twice at (c ∷ []) (spaced ns) row in
-    let both : overwritten (at + 1) (spaced ns) (set row at c) ≡ overwritten at (c ∷ spaced ns) row = ap (overwritten (at + 1) (spaced ns)) one ∙ two in
-    let same = length-overwritten at (c ∷ spaced ns) row (omega arith) in
-    let place : at + 1 + length (spaced ns) ≡ at + length (c ∷ spaced ns) = omega arith in
-    ap (λ xs. set xs (at + 1 + length (spaced ns)) 10) both
-    ∙ ap (λ m. set (overwritten at (c ∷ spaced ns) row) m 10) place
-    ∙ set-overwritten (at + length (c ∷ spaced ns)) 10 (overwritten at (c ∷ spaced ns) row) (omega arith)
-    ∙ overwritten_twice at (c ∷ spaced ns) (10 ∷ []) row
-
--- what a line written leaves: the place after it, and the row
-pub line_done : (c at : ℕ) (ns row : List ℕ) (to : ℕ) (out : List ℕ) → has_room at ns row ≡ true → to ≡ at + 1 + length (spaced ns) → out ≡ overwritten (at + 1) (spaced ns) (set row at c)
-    → (Some (to + 1) ≡ cond (has_room at ns row) (Some (at + length (line_bytes c ns))) None) × (set out to 10 ≡ cond (has_room at ns row) (overwritten at (line_bytes c ns) row) row)
-line_done c at ns row to out t there made =
-    let parts = and_parts (leb (at + (17 * length ns + 2)) (length row)) (all_short ns) t in
-    let fits = leb-true (at + (17 * length ns + 2)) (length row) parts.0 in
-    let last : to + 1 ≡ at + length (line_bytes c ns) = omega (arith, length_line c ns) in (
-      ap Some last ∙ sym (cond-true (has_room at ns row) (Some (at + length (line_bytes c ns))) None t),
-      ap (λ m. set out m 10) there ∙ ap (λ xs. set xs (at + 1 + length (spaced ns)) 10) made ∙ line_written c at ns row parts.1 fits
-          ∙ sym (cond-true (has_room at ns row) (overwritten at (line_bytes c ns) row) row t),
-    )
+pub line_written : (c : ℕ) (ns row part : List ℕ) (to : ℕ) → has_room ns row ≡ true → to ≡ length (spaced ns) → part ≡ begun (spaced ns) (take (length (set row 0 c) - 1) (drop 1 (set row 0 c)))
+    → set (put_mid 1 (length (set row 0 c) - 1) (set row 0 c) part) (1 + to) 10 ≡ begun (line_bytes c ns) row
+line_written c ns row part to room end made =
+    let parts = and_parts (leb (17 * length ns + 2) (length row)) (all_short ns) room in
+    let fits = leb-true (17 * length ns + 2) (length row) parts.0 in
+    let few = length_spaced_le ns parts.1 in
+    let all : put_mid 1 (length (set row 0 c) - 1) (set row 0 c) part ≡ begun (c ∷ spaced ns) row =
+    begun_after (c ∷ []) (spaced ns) row (set row 0 c) part 1 _ (begun_push [] row c (omega arith)) refl (omega arith) refl made in
+    ap (λ xs. set xs (1 + to) 10) all ∙ ap (λ n. set (begun (c ∷ spaced ns) row) n 10) (let e : 1 + to ≡ length (c ∷ spaced ns) = omega arith in e)
+    ∙ begun_push (c ∷ spaced ns) row 10 (omega arith)

@@ -1,10 +1,13 @@
 -- The digits of a number by their places. Assumes nothing.
-use Rattle.std.proofs.Common.{◌≡◌, ℕ, zero, suc, ◌+◌, ◌-◌, ◌/◌, ◌%◌, ◌^◌, ◌<◌, ◌≤◌, List, [], ◌∷◌, ◌++◌, length, get_or, decimal, sym, ap, ◌∙◌, ⊎_elim, arith}
-use native.Mathlib.Nat.{pow-succ', div-div-eq-div-mul}
+use Rattle.std.proofs.Common.{◌≡◌, ℕ, max, not, ltb, refl, true, false, map, zero, suc, ◌+◌, ◌-◌, ◌/◌, ◌%◌, ◌^◌, ◌<◌, ◌≤◌, List, [], ◌∷◌, ◌++◌, length, take, reverse, get_or, decimal, sym, ap, ◌∙◌, ⊎_elim, arith}
+use native.Mathlib.Nat.{one-le-pow, pow-succ', div-div-eq-div-mul}
 use Rattle.std.proofs.lemmas.Fmt.{decimal_by_steps, decimal_nonempty, length-decimal-le}
-use Rattle.std.proofs.lemmas.List.{get_or_append_left, get_or_push, length_push}
+use Rattle.std.proofs.lemmas.List.{get_or-reverse, get_or-take, get_or_append_left, get_or_push, length_push, length-reverse, length-take-le}
 use Rattle.std.proofs.lemmas.Str.Parse.{digits_value_short}
-use Rattle.std.proofs.lemmas.Bool.{cases_lt}
+use Rattle.std.proofs.lemmas.Bool.{cases_lt, ltb-true, ltb-false}
+use Rattle.std.specs.List.{range_with_len, enumerate_from, position_or_len}
+use Rattle.std.proofs.lemmas.List.FromFn.{get_or-map-range_with_len, get_or-enumerate_from, length-enumerate_from}
+use Rattle.std.proofs.lemmas.List.Sums.{prefix_len-le-length, fails_before_first, passes_at_first}
 use Rattle.words.specs.Numbers.{digits_value}
 use Rattle.words.proofs.Decimals.{own, reads_back}
 
@@ -62,3 +65,54 @@ length-decimal k n some lt ge small =
     (λ long. let h = length_decimal_gt (k - 1) n (ge long) small in let e : length (decimal n) ≡ k = omega arith in e)
     (λ le. let e : length (decimal n) ≡ k = omega arith in e)
     (cases_lt 1 k)
+
+-- the powers of ten from 10^0 to 10^15
+abbrev pub powers : List ℕ
+powers = map (λ i. 10 ^ i) (range_with_len 0 16)
+
+pub power_at : (i d : ℕ) → i < 16 → get_or powers i d ≡ 10 ^ i
+power_at i d lt = get_or-map-range_with_len (λ i. 10 ^ i) 0 16 i i d lt (omega arith)
+
+-- as many of such powers are no larger than a number as it has digits, or none at 0
+count_of : (ps : List ℕ) → length ps ≡ 16 → ((i : ℕ) → i < 16 → get_or ps i 0 ≡ 10 ^ i) → (n k : ℕ) → n < 10 ^ 16 → k ≡ position_or_len (ltb n) ps → max k 1 ≡ length (decimal n)
+count_of ps long at n k small is = ⊎_elim (λ some. more some) (λ none. zeroth (let e : k ≡ 0 = omega arith in e)) (cases_lt 0 k)
+  where
+    within : k ≤ 16
+    within = omega (arith, is, prefix_len-le-length (λ p. not (ltb n p)) ps)
+
+    below : k < 16 → n < 10 ^ k
+    below lt =
+        let here : ltb n (get_or ps (position_or_len (ltb n) ps) 0) ≡ true = passes_at_first (ltb n) ps 0 (omega arith) in
+        ltb-true n (10 ^ k) (ap (ltb n) (sym (at k lt)) ∙ ap (λ i. ltb n (get_or ps i 0)) is ∙ here)
+
+    zeroth : k ≡ 0 → max k 1 ≡ length (decimal n)
+    zeroth none =
+        let few : n < 1 = rw none at (below (omega arith)) in
+        rw none (sym (length-decimal 1 n (omega arith) (omega arith) (λ lt. absurd (let z : ⊥ = omega arith in z)) (omega arith)))
+
+    more : 0 < k → max k 1 ≡ length (decimal n)
+    more some =
+        let before : ltb n (get_or ps (k - 1) 0) ≡ false = fails_before_first (ltb n) ps (k - 1) 0 (omega arith) in
+        let ge : 10 ^ (k - 1) ≤ n = ltb-false n (10 ^ (k - 1)) (ap (ltb n) (sym (at (k - 1) (omega (arith, within)))) ∙ before) in
+        let lt : n < 10 ^ k = ⊎_elim below (λ le. let all : k ≡ 16 = omega (arith, within) in rw all small) (cases_lt k 16) in
+        omega (arith, length-decimal k n some lt (λ _. ge) (omega arith))
+
+pub count_of_powers : (n k : ℕ) → n < 10 ^ 16 → k ≡ position_or_len (ltb n) powers → max k 1 ≡ length (decimal n)
+count_of_powers n k small is = count_of powers refl (λ i lt. power_at i 0 lt) n k small is
+
+-- the powers below 10^count from the largest down, each with its place
+abbrev pub powers_down : ℕ → List (ℕ × ℕ)
+powers_down count = enumerate_from 0 (reverse (take count powers))
+
+pub length-powers_down : (count : ℕ) → count ≤ 16 → length (powers_down count) ≡ count
+length-powers_down count few = length-enumerate_from 0 (reverse (take count powers)) ∙ length-reverse (take count powers) ∙ length-take-le count powers few
+
+pub power_turn : (count k i p : ℕ) → count ≤ 16 → (k < length (powers_down count)) × ((i, p) ≡ get_or (powers_down count) k (i, p)) → (k < count) × (i ≡ k) × (p ≡ 10 ^ (count - 1 - k)) × (0 < p)
+power_turn count k i p few turn =
+    let long : length (take count powers) ≡ count = length-take-le count powers few in
+    let lt : k < count = omega (arith, length-powers_down count few, turn.0) in
+    let pair : (i, p) ≡ (0 + k, get_or (reverse (take count powers)) k p) = turn.1 ∙ get_or-enumerate_from 0 (reverse (take count powers)) k (i, p) (omega (arith, length-reverse (take count powers))) in
+    let power : p ≡ 10 ^ (count - 1 - k) =
+    ap (λ q. q.1) pair ∙ get_or-reverse (take count powers) k p (omega arith) ∙ ap (λ n. get_or (take count powers) (n - 1 - k) p) long
+    ∙ get_or-take count powers (count - 1 - k) p (omega arith) ∙ power_at (count - 1 - k) p (omega arith) in
+    (lt, ap (λ q. q.0) pair ∙ (let e : 0 + k ≡ k = omega arith in e), power, omega (arith, one-le-pow (count - 1 - k) 10 (omega arith)))

@@ -22,17 +22,11 @@ fn digits_value(word: &[u8]) -> Option<u64>
 pub fn number_of(word: &[u8]) -> Option<u32>
     ensures { result ≡ number_of word.now }
 {
-    if word.len() == 0 || word.len() > 10 {
-        return None;
+    match word {
+        [] | [b'0', _, ..] => None,
+        _ if word.len() > 10 => None,
+        _ => u32::try_from(digits_value(word)?).ok(),
     }
-    if word.len() > 1 && word[0] == b'0' {
-        return None;
-    }
-    let value = digits_value(word)?;
-    if value > 4_294_967_295 {
-        return None;
-    }
-    Some(value as u32)
 }
 
 // A word says a number exactly when it is that number in decimal digits, and decimal digits read back.

@@ -1,5 +1,6 @@
 // Small words, read from sheets and written into rows.
-use crate::lexing::{Word, word_at};
+use crate::cursors::Cursor;
+use crate::lexing::Word;
 use crate::numbers::number_of;
 use crate::writing::write_line;
 
@@ -17,36 +18,19 @@ fn number_words(rt: HostRuntime) {
     assert!(rt; number_of(b"+7") == None);
 }
 
-fn is_letter_of(word: Option<Word>, bytes: &[u8], at: usize) -> bool {
-    match word {
-        Some(Word::Letter(found, place)) => found == bytes && place == at,
-        _ => false,
-    }
-}
-
-fn is_number_of(word: Option<Word>, bytes: &[u8], at: usize) -> bool {
-    match word {
-        Some(Word::Number(found, place)) => found == bytes && place == at,
-        _ => false,
-    }
-}
-
-fn is_line_end_of(word: Option<Word>, bytes: &[u8], at: usize) -> bool {
-    match word {
-        Some(Word::LineEnd(found, place)) => found == bytes && place == at,
-        _ => false,
-    }
+fn word_at(sheet: &[u8], at: usize) -> Option<Word<'_>> {
+    Cursor { sheet, at }.word()
 }
 
 #[test]
 fn words_of_a_sheet(rt: HostRuntime) {
     let sheet = b"e 12\nt 0  5\tx\r";
-    assert!(rt; is_letter_of(word_at(sheet, 0), b"e", 0));
-    assert!(rt; is_number_of(word_at(sheet, 2), b"12", 2));
-    assert!(rt; is_number_of(word_at(sheet, 3), b"2", 3));
-    assert!(rt; is_line_end_of(word_at(sheet, 4), b"\n", 4));
-    assert!(rt; is_line_end_of(word_at(sheet, 14), b"", 14));
-    assert!(rt; is_line_end_of(word_at(sheet, 99), b"", 99));
+    assert!(rt; matches!(word_at(sheet, 0), Some(Word::Letter([b'e'], 0))));
+    assert!(rt; matches!(word_at(sheet, 2), Some(Word::Number([b'1', b'2'], 2))));
+    assert!(rt; matches!(word_at(sheet, 3), Some(Word::Number([b'2'], 3))));
+    assert!(rt; matches!(word_at(sheet, 4), Some(Word::LineEnd([b'\n'], 4))));
+    assert!(rt; matches!(word_at(sheet, 14), Some(Word::LineEnd([], 14))));
+    assert!(rt; matches!(word_at(sheet, 99), Some(Word::LineEnd([], 99))));
     assert!(rt; word_at(sheet, 9).is_none(), "a second space");
     assert!(rt; word_at(sheet, 10).is_none(), "a tab in a word");
     assert!(rt; word_at(sheet, 13).is_none(), "a carriage return");
@@ -55,23 +39,27 @@ fn words_of_a_sheet(rt: HostRuntime) {
 #[test]
 fn line_is_written(rt: HostRuntime) {
     let mut row = [b'.'; 90];
-    assert!(rt; write_line(b'e', &[12, 3, 198, 270, 72], &mut row, 1) == Some(19));
+    assert!(rt; write_line(b'e', &[12, 3, 198, 270, 72], &mut row[1..]) == Some(18));
     assert!(rt; &row[0..20] == b".e 12 3 198 270 72\n.".as_slice());
 }
 
 #[test]
 fn longest_number_is_written(rt: HostRuntime) {
     let mut row = [b'.'; 19];
-    assert!(rt; write_line(b'?', &[10_000_000_000_000_000], &mut row, 0) == None);
+    assert!(rt; write_line(b'?', &[10_000_000_000_000_000], &mut row) == None);
     assert!(rt; &row[0..19] == b"...................".as_slice());
-    assert!(rt; write_line(b'?', &[9_999_999_999_999_999], &mut row, 0) == Some(19));
+    assert!(rt; write_line(b'?', &[9_999_999_999_999_999], &mut row) == Some(19));
     assert!(rt; &row[0..19] == b"? 9999999999999999\n".as_slice());
 }
 
 #[test]
 fn short_row_is_kept(rt: HostRuntime) {
     let mut row = [b'.'; 19];
-    assert!(rt; write_line(b'w', &[4], &mut row, 1) == None);
-    assert!(rt; write_line(b'w', &[4], &mut row, 20) == None);
+    assert!(rt; write_line(b'w', &[4], &mut row[1..]) == None);
+    assert!(rt;
+        row.get_mut(20..)
+            .and_then(|rest| write_line(b'w', &[4], rest))
+            == None
+    );
     assert!(rt; &row[0..19] == b"...................".as_slice());
 }

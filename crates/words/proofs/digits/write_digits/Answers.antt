@@ -1,32 +1,39 @@
-use Rattle.std.proofs.Common.{◌+◌, ◌-◌, ◌/◌, ◌%◌, ◌^◌, decimal, sym, ap, ◌∙◌, arith}
-use Rattle.std.proofs.lemmas.List.{take_all}
-use Rattle.words.specs.Writing.{overwritten}
-use Rattle.words.proofs.Overwriting.{overwritten_none, overwritten_more}
-use Rattle.words.proofs.Places.{digit_at}
+use Rattle.std.proofs.Common.{◌≡◌, ◌+◌, ◌-◌, ◌/◌, ◌%◌, ◌^◌, ◌<◌, get_or, take, decimal, length, sym, ap, ◌∙◌, arith, rules}
+use Rattle.std.proofs.lemmas.Iterator.Consumers.{YieldsList-turn, YieldsList-end, YieldsList-from_enumerate}
+use Rattle.std.proofs.lemmas.Iterator.Adapters.{YieldsList-from_rev_slice}
+use Rattle.std.proofs.lemmas.List.{take_all, length_push}
+use Rattle.words.specs.Writing.{begun}
+use Rattle.words.proofs.Beginning.{begun_next}
+use Rattle.words.proofs.Places.{powers, power_turn, digit_at, length-powers_down}
 use Rattle.words.proofs.digits.write_digits.Goals as goal
 
-pub loop-i-init : goal.loop-i-init
-loop-i-init c = sym (overwritten_none c.args.at c.args.out.now)
-
-pub power-requires : goal.power-requires
-power-requires c = omega (arith, c.digit_count-count.ensures.few)
-
 pub nonzero_div-out : goal.nonzero_div-out
-nonzero_div-out c = c.power.ensures.some
+nonzero_div-out c =
+    let chain = YieldsList-from_enumerate (YieldsList-from_rev_slice (take c.digit_count-count.result powers) cc) cc in
+    let t = YieldsList-turn chain c.loop-i.yielded _ c.loop-i.yielded_by _ _ _ c.in-Some.is c.next.ensures.steps in
+    (power_turn _ _ _ _ c.digit_count-count.ensures.few t).3
 
 pub loop-i-preserved : goal.loop-i-preserved
 loop-i-preserved c =
-    overwritten_more c.args.at c.loop-i.i _ (decimal c.args.n) c.args.out.now c.loop-i.out
-    (omega (arith, c.digit_count-count.ensures.count)) c.requires.fits c.loop-i.invariant
-    (ap (λ p. 48 + c.args.n / p % 10) c.power.ensures.value
-    ∙ ap (λ k. 48 + c.args.n / 10 ^ (k - 1 - c.loop-i.i) % 10) c.digit_count-count.ensures.count
-    ∙ sym (digit_at c.args.n c.ranges.n.fits c.loop-i.i (omega (arith, c.digit_count-count.ensures.count))))
+    let chain = YieldsList-from_enumerate (YieldsList-from_rev_slice (take c.digit_count-count.result powers) cc) cc in
+    let t = YieldsList-turn chain c.loop-i.yielded _ c.loop-i.yielded_by _ _ _ c.in-Some.is c.next.ensures.steps in
+    let p = power_turn _ _ _ _ c.digit_count-count.ensures.few t in
+    let k = length c.loop-i.yielded in
+    let lt : k < length (decimal c.args.n) = omega (arith, p.0, c.digit_count-count.ensures.count) in
+    let digit : 48 + c.args.n / c.in-Some.power.now % 10 ≡ get_or (decimal c.args.n) k 0 =
+    ap (λ q. 48 + c.args.n / q % 10) (p.2 ∙ ap (λ m. 10 ^ (m - 1 - k)) c.digit_count-count.ensures.count) ∙ sym (digit_at c.args.n c.ranges.n.fits k lt) in
+    record {
+      ready = search rules;
+      finite = search rules;
+      row = begun_next (decimal c.args.n) c.args.out.now c.loop-i.out k c.in-Some.i _ _ lt c.requires.fits c.loop-i.invariant.row p.1 (length_push c.loop-i.yielded (c.in-Some.i, c.in-Some.power)) digit;
+    }
 
 pub returns : goal.returns
 returns c =
+    let chain = YieldsList-from_enumerate (YieldsList-from_rev_slice (take c.digit_count-count.result powers) cc) cc in
+    let t = YieldsList-end chain c.loop-i.yielded _ c.loop-i.yielded_by _ _ c.in-None.is c.next.ensures.steps in
+    let all : length c.loop-i.yielded ≡ length (decimal c.args.n) = t.1 ∙ length-powers_down c.digit_count-count.result c.digit_count-count.ensures.few ∙ c.digit_count-count.ensures.count in
     record {
-      end = ap (λ k. c.args.at + k) c.digit_count-count.ensures.count;
-      row =
-          c.loop-i.invariant
-          ∙ ap (λ ds. overwritten c.args.at ds c.args.out.now) (take_all c.loop-i.i (decimal c.args.n) (omega (arith, c.digit_count-count.ensures.count)));
+      count = c.digit_count-count.ensures.count;
+      row = c.loop-i.invariant.row ∙ ap (λ ds. begun ds c.args.out.now) (take_all (length c.loop-i.yielded) (decimal c.args.n) (omega arith));
     }

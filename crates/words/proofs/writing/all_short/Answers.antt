@@ -1,12 +1,13 @@
-use Rattle.std.proofs.Common.{sym, ◌∙◌, arith}
-use Rattle.words.proofs.Lines.{short_more, short_stops, short_all}
+use Rattle.std.proofs.Common.{◌∙◌, rules, tests, refl}
+use Rattle.std.proofs.lemmas.Iterator.{YieldsList-from_slice}
+use Rattle.std.proofs.lemmas.Iterator.Search.{all_from_yields_List}
+use Rattle.std.proofs.lemmas.List.Recursion.{same_from_clauses}
+use Rattle.std.proofs.Common.{ltb, ◌^◌, ◌&&◌}
+use Rattle.std.specs.List.{list_all}
+use Rattle.words.specs.Writing.{all_short}
 use Rattle.words.proofs.writing.all_short.Goals as goal
 
-pub returns-then-n-gt-LARGEST : goal.returns-then-n-gt-LARGEST
-returns-then-n-gt-LARGEST c = sym (short_stops c.args.numbers.now c.loop-n.n-index c.loop-n-test.true (omega arith)) ∙ c.loop-n.invariant
-
-pub loop-n-preserved : goal.loop-n-preserved
-loop-n-preserved c = sym (short_more c.args.numbers.now c.loop-n.n-index c.loop-n-test.true (omega arith)) ∙ c.loop-n.invariant
-
 pub returns : goal.returns
-returns c = sym (short_all c.args.numbers.now c.loop-n.n-index c.loop-n-test.false) ∙ c.loop-n.invariant
+returns c =
+    all_from_yields_List (λ n. ltb n (10 ^ 16)) _ _ c.all.result c.all.ensures.ran (YieldsList-from_slice c.args.numbers.now cc) (λ x b q k. search (rules, tests))
+    ∙ same_from_clauses (list_all (λ n. ltb n (10 ^ 16))) all_short (λ n rest. ltb n (10 ^ 16) && rest) refl (λ _ _. refl) (λ _ _. refl) c.args.numbers.now
