@@ -1,34 +1,19 @@
 -- Limits added up gap by gap. Assumes nothing.
-use Rattle.std.proofs.Common.{◌≡◌, ℕ, ◌+◌, ◌-◌, ◌*◌, ◌/◌, ◌^◌, ◌<◌, ◌≤◌, List, [], ◌∷◌, length, get_or, drop, sym, ap, ◌∙◌, subst, ⊎_elim, mul-le-mul_right, mul-le-mul_left, div-mul-le_self, arith}
-use Rattle.std.proofs.lemmas.List.{drop_more, drop_all}
+use Rattle.std.proofs.Common.{◌≡◌, ℕ, ◌+◌, ◌-◌, ◌*◌, ◌/◌, ◌^◌, ◌<◌, ◌≤◌, List, [], ◌∷◌, length, refl, subst, zero-add, mul-le-mul_right, mul-le-mul_left, div-mul-le_self, arith}
 use Rattle.std.proofs.lemmas.Nat.{mul-le}
-use Rattle.std.proofs.lemmas.Bool.{cases_lt}
 use Rattle.tables.specs.declared.points.Point.{Point}
-use Rattle.tables.specs.Log.{IsLog, span_of, inner_of, low, high, SharpLimits}
+use Rattle.tables.specs.Log.{IsLog, span_of, last_value, inner_of, low, high, SharpLimits}
 use Rattle.tables.specs.Least.{least_width}
 use Rattle.tables.proofs.LeastWidth.{least_le_square}
 use Rattle.tables.proofs.Limits.{limits_are_sharp}
-use Rattle.logs.specs.Fits.{origin}
-use Rattle.logs.proofs.Gaps.{rises_by_place, span_at_end}
+use Rattle.logs.proofs.Gaps.{at_le_last}
+pub use Rattle.logs.proofs.Gaps.{nth}
+use Rattle.logs.proofs.Walking.{Ahead, Step, step_by}
 
--- the point at place i
-abbrev pub nth : List Point → ℕ → Point
-nth log i = get_or log i origin
-
--- lo and hi are what the gaps before place i add to the limits
-pub record Summed (log : List Point) (i lo hi : ℕ) : Type 0 where
-  pub lows : lo + low (drop i log) ≡ low log
-  pub highs : hi + high (drop i log) ≡ high log
-  pub low_bound : lo ≤ (nth log i).at * 2 ^ 32
-  pub high_bound : hi ≤ (nth log i).at * 2 ^ 32
-
--- no argument is above the span
-pub at_within : (log : List Point) → IsLog (span_of log) log → (i : ℕ) → i < length log → (nth log i).at ≤ span_of log
-at_within log is i h =
-    ⊎_elim
-    (λ (lt : i < length log - 1). omega (arith, rises_by_place log is i (length log - 1) origin lt (omega arith), span_at_end log origin is))
-    (λ (le : length log - 1 ≤ i). subst (λ m. (nth log m).at ≤ span_of log) {x = length log - 1} {y = i} (omega arith) (omega (arith, span_at_end log origin is)))
-    (cases_lt i (length log - 1))
+-- lo and hi are what the gaps before those ahead add to the limits
+abbrev pub Summed : List Point → List Point → ℕ → ℕ → Type 0
+Summed log [] lo hi = ⊥
+Summed log (p ∷ ps) lo hi = (lo + low (p ∷ ps) ≡ low log) × (hi + high (p ∷ ps) ≡ high log) × (lo ≤ p.at * 2 ^ 32) × (hi ≤ p.at * 2 ^ 32)
 
 -- values up to B, at each of the arguments from a to b − 1
 gap_bound : (a b u v B : ℕ) → a < b → u ≤ B → v ≤ B → u + (b - a - 1) * v ≤ b * B - a * B
@@ -45,28 +30,36 @@ moved done part rest whole all e f = omega arith
 bounded : (done part a b : ℕ) → done ≤ a → a ≤ b → part ≤ b - a → done + part ≤ b
 bounded done part a b h le k = omega arith
 
-module _ (log : List Point) (i lo hi : ℕ) (is : IsLog (span_of log) log) (h : i + 1 < length log) where
-  -- one gap more
-  pub summed_more : (nth log i).value < 2 ^ 32 → (nth log (i + 1)).value < 2 ^ 32 → Summed log i lo hi → Summed log (i + 1) (lo + ((nth log i).value + inner_of (nth log i) (nth log (i + 1)) * (nth log i).value)) (hi + ((nth log i).value + inner_of (nth log i) (nth log (i + 1)) * (nth log (i + 1)).value))
-  summed_more up wp s =
-      let p = nth log i in
-      let q = nth log (i + 1) in
-      let rises : p.at < q.at = rises_by_place log is i (i + 1) origin (omega arith) h in
-      let next : drop (i + 1) log ≡ q ∷ drop (i + 1 + 1) log = drop_more log (i + 1) origin h in
-      let both : drop i log ≡ p ∷ (q ∷ drop (i + 1 + 1) log) = drop_more log i origin (omega arith) ∙ ap (λ l. p ∷ l) next in
-      record {
-        lows = moved lo _ (low (drop (i + 1) log)) (low (drop i log)) (low log) s.lows (ap low both ∙ ap (λ l. p.value + inner_of p q * p.value + low l) (sym next));
-        highs = moved hi _ (high (drop (i + 1) log)) (high (drop i log)) (high log) s.highs (ap high both ∙ ap (λ l. p.value + inner_of p q * q.value + high l) (sym next));
-        low_bound = bounded lo _ (p.at * 2 ^ 32) (q.at * 2 ^ 32) s.low_bound (omega arith) (gap_bound p.at q.at p.value p.value (2 ^ 32) rises (omega arith) (omega arith));
-        high_bound = bounded hi _ (p.at * 2 ^ 32) (q.at * 2 ^ 32) s.high_bound (omega arith) (gap_bound p.at q.at p.value q.value (2 ^ 32) rises (omega arith) (omega arith));
-      }
+-- before the first gap nothing is added
+pub summed_none : (log : List Point) → IsLog (span_of log) log → Summed log log 0 0
+summed_none [] is = absurd is
+summed_none (p ∷ ps) is = (zero-add _, zero-add _, omega arith, omega arith)
 
--- at the last point nothing but its value is to come
-pub summed_all : (log : List Point) (lo hi i last : ℕ) → i ≡ last → last + 1 ≡ length log → Summed log i lo hi → (lo + (nth log last).value ≡ low log) × (hi + (nth log last).value ≡ high log)
-summed_all log lo hi i last e h t =
-    let s : Summed log last lo hi = subst (λ k. Summed log k lo hi) e t in
-    let one : drop last log ≡ nth log last ∷ [] = drop_more log last origin (omega arith) ∙ ap (λ l. nth log last ∷ l) (drop_all (last + 1) log (omega arith)) in
-    (ap (λ l. lo + low l) (sym one) ∙ s.lows, ap (λ l. hi + high l) (sym one) ∙ s.highs)
+-- one gap more
+pub summed_more : (log rest window next : List Point) → Step rest window next → (lo hi u v m : ℕ) → Ahead log rest → u ≡ (nth window 0).value → v ≡ (nth window 1).value → m ≡ inner_of (nth window 0) (nth window 1) → u < 2 ^ 32 → v < 2 ^ 32 → Summed log rest lo hi → Summed log next (lo + (u + m * u)) (hi + (u + m * v))
+summed_more log rest window next s lo hi u v m =
+    step_by
+    (λ r w n. Ahead log r → u ≡ (nth w 0).value → v ≡ (nth w 1).value → m ≡ inner_of (nth w 0) (nth w 1) → u < 2 ^ 32 → v < 2 ^ 32 → Summed log r lo hi → Summed log n (lo + (u + m * u)) (hi + (u + m * v)))
+    (λ p q ps a is_u is_v is_m small_u small_v t. rw (is_u, is_v, is_m) (
+      moved lo (p.value + inner_of p q * p.value) (low (q ∷ ps)) (low (p ∷ (q ∷ ps))) (low log) t.0 refl,
+      moved hi (p.value + inner_of p q * q.value) (high (q ∷ ps)) (high (p ∷ (q ∷ ps))) (high log) t.1 refl,
+      bounded lo _ (p.at * 2 ^ 32) (q.at * 2 ^ 32) t.2 (omega (arith, a.0.0)) (gap_bound p.at q.at p.value p.value (2 ^ 32) a.0.0 (omega arith) (omega arith)),
+      bounded hi _ (p.at * 2 ^ 32) (q.at * 2 ^ 32) t.3 (omega (arith, a.0.0)) (gap_bound p.at q.at p.value q.value (2 ^ 32) a.0.0 (omega arith) (omega arith)),
+    ))
+    rest window next s
+
+-- so the sums stay small
+pub summed_small : (log rest : List Point) (lo hi : ℕ) → span_of log ≤ 1000000 → Ahead log rest → Summed log rest lo hi → (lo < 2 ^ 63) × (hi < 2 ^ 63)
+summed_small log [] lo hi short a t = absurd a
+summed_small log (p ∷ ps) lo hi short a t =
+    let within : p.at ≤ 1000000 = omega (arith, at_le_last p ps a.0, a.1) in
+    (omega (arith, t.2, mul-le-mul_right (2 ^ 32) within), omega (arith, t.3, mul-le-mul_right (2 ^ 32) within))
+
+-- with one point ahead, nothing but its value is to come
+pub summed_all : (log rest : List Point) (lo hi : ℕ) → length rest < 2 → Ahead log rest → Summed log rest lo hi → (lo + last_value log ≡ low log) × (hi + last_value log ≡ high log)
+summed_all log [] lo hi one a t = absurd a
+summed_all log (p ∷ []) lo hi one a t = rw (← a.2) (t.0, t.1)
+summed_all log (p ∷ (q ∷ ps)) lo hi one a t = absurd (let z : ⊥ = omega arith in z)
 
 -- the limits by the formula are sharp
 pub sharp_limits_lem : (log : List Point) → IsLog (span_of log) log → (lo hi : ℕ) → lo ≡ low log → hi ≡ high log → SharpLimits log lo hi

@@ -1,5 +1,5 @@
 -- Tables that are written into a row gap by gap. Assumes nothing.
-use Rattle.std.proofs.Common.{◌≡◌, ℕ, zero, suc, ◌+◌, ◌-◌, ◌<◌, ◌≤◌, List, [], ◌∷◌, ◌++◌, map, length, take, drop, set, replicate, sym, refl, ap, ◌∙◌, subst, ⊎_elim, arith}
+use Rattle.std.proofs.Common.{◌≡◌, ℕ, suc, ◌+◌, ◌-◌, ◌<◌, ◌≤◌, List, [], ◌∷◌, ◌++◌, map, length, take, drop, set, replicate, Ok, length-set, sym, refl, ap, ◌∙◌, ⊎_elim, arith}
 use borrow.Rule.Slice.PartMut.{put_mid}
 use Rattle.std.specs.List.{range_with_len}
 use Rattle.std.proofs.lemmas.List.FromFn.{length-map-range_with_len, get_or-map-range_with_len, fill_by_all}
@@ -8,12 +8,13 @@ use Rattle.std.proofs.lemmas.List.{append_assoc, length-append, length-replicate
 use Rattle.std.proofs.lemmas.Slice.{drop-append-drop}
 use Rattle.std.proofs.lemmas.Bool.{cases_lt, lt-ltb, le-ltb, le-leb, lt-leb, cond-true, cond-false}
 use Rattle.tables.specs.declared.points.Point.{Point}
-use Rattle.tables.specs.Log.{IsLog, span_of, low_table, high_table}
+use Rattle.denials.specs.Checks.{Decided}
+use Rattle.denials.specs.Told.{told}
+use Rattle.tables.specs.Log.{Rising, IsLog, span_of, last_value, low_table, high_table}
 use Rattle.tables.specs.Table.{Table}
-use Rattle.logs.proofs.Adding.{nth}
-use Rattle.logs.proofs.Gaps.{rises_by_place, span_at_end}
-use Rattle.logs.specs.Buffers.{written}
-use Rattle.logs.specs.Fits.{origin}
+use Rattle.logs.proofs.Gaps.{nth}
+use Rattle.logs.proofs.Walking.{Ahead, Step, step_by, gap_rises}
+use Rattle.logs.specs.Buffers.{written, too_short, Draws}
 
 -- a row after the first n values of a table were written into it
 abbrev pub filled : Table → ℕ → List ℕ → List ℕ
@@ -49,73 +50,69 @@ part_one : (cur : List ℕ) (a u : ℕ) → a < length cur → set cur a u ≡ p
 part_one cur a u h =
     set_split cur a u h ∙ ap (λ n. take a cur ++ (u ∷ drop n cur)) {x = suc a} {y = a + 1} (omega arith) ∙ ap (λ n. take a cur ++ (replicate n u ++ drop (a + 1) cur)) {x = 1} {y = a + 1 - a} (omega arith)
 
--- where all points up to place i lie at or before x, and the next after it, the low table has the value at i
-low_from : (log : List Point) (i x : ℕ) → i < length log → ((k : ℕ) → k ≤ i → (nth log k).at ≤ x) → (i + 1 < length log → x < (nth log (i + 1)).at) → low_table log x ≡ (nth log i).value
-low_from [] i x h before after = absurd (let z : ⊥ = omega arith in z)
-low_from (p ∷ []) zero x h before after = refl
-low_from (p ∷ []) (suc i) x h before after = absurd (let z : ⊥ = omega arith in z)
-low_from (p ∷ (q ∷ ps)) zero x h before after = cond-true _ _ _ (lt-ltb x q.at (after (omega arith)))
-low_from (p ∷ (q ∷ ps)) (suc i) x h before after =
-    cond-false _ _ _ (le-ltb x q.at (before 1 (omega arith)))
-    ∙ low_from (q ∷ ps) i x (omega arith) (λ k le. before (suc k) (omega arith)) (λ lt. subst (λ m. x < (nth (p ∷ (q ∷ ps)) m).at) {x = suc i + 1} {y = suc (i + 1)} (omega arith) (after (omega arith)))
+-- of the points ahead a table has what a relation finds, and up to the first of them the row has the table's values
+abbrev pub Drawn : (ℕ → ℕ → ℕ → Type 0) → List Point → List Point → List ℕ → List ℕ → Type 0
+Drawn finds log [] old cur = ⊥
+Drawn finds log (p ∷ ps) old cur = (t : Table) → Draws finds t log → Draws finds t (p ∷ ps) × (cur ≡ filled t p.at old)
 
--- where all points before place i lie before x, and that at i does not, the high table has the value at i
-high_to : (log : List Point) (i x : ℕ) → i < length log → ((k : ℕ) → k < i → (nth log k).at < x) → x ≤ (nth log i).at → high_table log x ≡ (nth log i).value
-high_to [] i x h before le = absurd (let z : ⊥ = omega arith in z)
-high_to (p ∷ ps) zero x h before le = cond-true _ _ _ (le-leb x p.at le)
-high_to (p ∷ ps) (suc i) x h before le =
-    cond-false _ _ _ (lt-leb x p.at (before 0 (omega arith))) ∙ high_to ps i x (omega arith) (λ k lt. before (suc k) (omega arith)) le
+-- at first the row is as it was
+pub drawn_none : (finds : ℕ → ℕ → ℕ → Type 0) (log : List Point) (old : List ℕ) → IsLog (span_of log) log → Drawn finds log log old old
+drawn_none finds [] old is = absurd is
+drawn_none finds (p ∷ ps) old is = λ t d. (d, rw is.0 refl)
 
--- where the part of the high table begins that has the value at place i
-abbrev pub start : List Point → ℕ → ℕ
-start log zero = 0
-start log (suc i) = (nth log i).at + 1
+-- one gap more: its first point has its value, and inside it is what the relation finds
+pub drawn_more : (finds : ℕ → ℕ → ℕ → Type 0) (log rest window next : List Point) → Step rest window next → (old cur new : List ℕ) (u : ℕ) → Ahead log rest → finds (nth window 0).value (nth window 1).value u → span_of log < length cur → new ≡ replicate (length (take ((nth window 1).at - ((nth window 0).at + 1)) (drop ((nth window 0).at + 1) (set cur (nth window 0).at (nth window 0).value)))) u → Drawn finds log rest old cur → Drawn finds log next old (put_mid ((nth window 0).at + 1) ((nth window 1).at - ((nth window 0).at + 1)) (set cur (nth window 0).at (nth window 0).value) new)
+drawn_more finds log rest window next s old cur new u a found fits is =
+    step_by
+    (λ r w n. ((nth w 0).at < (nth w 1).at) × ((nth w 1).at ≤ span_of log) → finds (nth w 0).value (nth w 1).value u → new ≡ replicate (length (take ((nth w 1).at - ((nth w 0).at + 1)) (drop ((nth w 0).at + 1) (set cur (nth w 0).at (nth w 0).value)))) u → Drawn finds log r old cur → Drawn finds log n old (put_mid ((nth w 0).at + 1) ((nth w 1).at - ((nth w 0).at + 1)) (set cur (nth w 0).at (nth w 0).value) new))
+    (λ p q ps gap f e drawn t draws.
+    let d = drawn t draws in
+    let one : set cur p.at p.value ≡ filled t (p.at + 1) old =
+    part_one cur p.at p.value (omega (arith, gap.0, gap.1))
+    ∙ filled_more t old cur p.at (p.at + 1) p.value (omega arith) (λ x lo hi. ap t {x = x} {y = p.at} (omega arith) ∙ d.0.0) d.1 in (
+      d.0.2,
+      part_filled (set cur p.at p.value) new (p.at + 1) q.at u (omega (arith, gap.0)) (omega (arith, gap.1, length-set cur p.at p.value)) e
+          ∙ filled_more t old (set cur p.at p.value) (p.at + 1) q.at u (omega (arith, gap.0)) (λ x lo hi. d.0.1 u f x (omega arith) hi) one,
+    ))
+    rest window next s (gap_rises log rest window next s a) found is
 
-module _ (log : List Point) (is : IsLog (span_of log) log) where
-  -- no argument is above one at a later place
-  at_up : (k i : ℕ) → k ≤ i → i < length log → (nth log k).at ≤ (nth log i).at
-  at_up k i le h =
-      ⊎_elim
-      (λ (lt : k < i). omega (arith, rises_by_place log is k i origin lt h))
-      (λ (ge : i ≤ k). subst (λ m. (nth log m).at ≤ (nth log i).at) {x = i} {y = k} (omega arith) (omega arith))
-      (cases_lt k i)
+-- the last point has its value, and the table is written
+pub drawn_all : (finds : ℕ → ℕ → ℕ → Type 0) (log rest : List Point) (old cur : List ℕ) (i v : ℕ) → length rest < 2 → Ahead log rest → Drawn finds log rest old cur → span_of log < length cur → i ≡ span_of log → v ≡ last_value log → (t : Table) → Draws finds t log → set cur i v ≡ written t (span_of log) old
+drawn_all finds log [] old cur i v one a d fits is_i is_v t draws = absurd a
+drawn_all finds log (p ∷ []) old cur i v one a d fits is_i is_v t draws =
+    let last = d t draws in
+    rw (is_i, is_v, ← a.1, ← a.2)
+    (part_one cur p.at p.value (omega (arith, a.1))
+    ∙ filled_more t old cur p.at (p.at + 1) p.value (omega arith) (λ x lo hi. ap t {x = x} {y = p.at} (omega arith) ∙ last.0) last.1)
+drawn_all finds log (p ∷ (q ∷ ps)) old cur i v one a d fits is_i is_v t draws = absurd (let z : ⊥ = omega arith in z)
 
-  -- the last is the span
-  at_end : (i : ℕ) → i + 1 ≡ length log → (nth log i).at ≡ span_of log
-  at_end i e = ap (λ m. (nth log m).at) {x = i} {y = length log - 1} (omega arith) ∙ span_at_end log origin is
+-- a row that is long enough is written
+pub wrote : (N len : ℕ) (P Q : Type 0) → N + 1 ≤ len → P → Decided {X = Unit {0}} told (too_short N len) (Ok tt) (λ _. P) Q
+wrote N len P Q h p = rw (le-ltb len (N + 1) h) p
 
-  -- from the point at i up to the next, and after the last, the low table has the value at i
-  low_here : (i x : ℕ) → i < length log → (nth log i).at ≤ x → (i + 1 < length log → x < (nth log (i + 1)).at) → low_table log x ≡ (nth log i).value
-  low_here i x h le after = low_from log i x h (λ k up. omega (arith, at_up k i up h)) after
+module _ (finds : ℕ → ℕ → ℕ → Type 0) where
+  low_drawn : ((u v w : ℕ) → finds u v w → w ≡ u) → (t : Table) (p : Point) (ps : List Point) → Rising p ps → ((x : ℕ) → p.at ≤ x → t x ≡ low_table (p ∷ ps) x) → Draws finds t (p ∷ ps)
+  low_drawn is t p [] r same = same p.at (omega arith)
+  low_drawn is t p (q ∷ ps) r same = (
+    same p.at (omega arith) ∙ cond-true _ _ _ (lt-ltb p.at q.at r.0),
+    λ u f x lo hi. same x (omega arith) ∙ cond-true _ _ _ (lt-ltb x q.at hi) ∙ sym (is p.value q.value u f),
+    low_drawn is t q ps r.2 (λ x h. same x (omega (arith, r.0)) ∙ cond-false _ _ _ (le-ltb x q.at h)),
+  )
 
-  -- one gap more of the low table
-  pub low_more : (old cur new : List ℕ) (i : ℕ) → i + 1 < length log → new ≡ part cur (nth log i).at (nth log (i + 1)).at (nth log i).value → cur ≡ filled (low_table log) (nth log i).at old → new ≡ filled (low_table log) (nth log (i + 1)).at old
-  low_more old cur new i h w e =
-      w ∙ filled_more (low_table log) old cur (nth log i).at (nth log (i + 1)).at (nth log i).value (at_up i (i + 1) (omega arith) h) (λ x a b. low_here i x (omega arith) a (λ _. b)) e
+  -- the low table has inside a gap the value before it
+  pub low_draws : ((u v w : ℕ) → finds u v w → w ≡ u) → (log : List Point) → IsLog (span_of log) log → Draws finds (low_table log) log
+  low_draws is [] log_is = absurd log_is
+  low_draws is (p ∷ ps) log_is = low_drawn is (low_table (p ∷ ps)) p ps log_is.2 (λ x h. refl)
 
-  -- its last place, and the low table is written
-  pub low_all : (old cur : List ℕ) (i : ℕ) → i + 1 ≡ length log → (nth log i).at < length cur → cur ≡ filled (low_table log) (nth log i).at old → set cur (nth log i).at (nth log i).value ≡ written (low_table log) (span_of log) old
-  low_all old cur i h fits e =
-      part_one cur (nth log i).at (nth log i).value fits
-      ∙ filled_more (low_table log) old cur (nth log i).at ((nth log i).at + 1) (nth log i).value (omega arith) (λ x a b. low_here i x (omega arith) a (λ lt. absurd (let z : ⊥ = omega arith in z))) e
-      ∙ ap (λ n. written (low_table log) n old) (at_end i h)
+  high_drawn : ((u v w : ℕ) → finds u v w → w ≡ v) → (t : Table) (p : Point) (ps : List Point) → Rising p ps → ((x : ℕ) → p.at ≤ x → t x ≡ high_table (p ∷ ps) x) → Draws finds t (p ∷ ps)
+  high_drawn is t p [] r same = same p.at (omega arith) ∙ cond-true _ _ _ (le-leb p.at p.at (omega arith))
+  high_drawn is t p (q ∷ ps) r same = (
+    same p.at (omega arith) ∙ cond-true _ _ _ (le-leb p.at p.at (omega arith)),
+    λ u f x lo hi. same x (omega arith) ∙ cond-false _ _ _ (lt-leb x p.at lo) ∙ cond-true _ _ _ (le-leb x q.at (omega arith)) ∙ sym (is p.value q.value u f),
+    high_drawn is t q ps r.2 (λ x h. same x (omega (arith, r.0)) ∙ cond-false _ _ _ (lt-leb x p.at (omega (arith, r.0)))),
+  )
 
-  -- a point's part of the high table begins after all earlier points
-  start_after : (i k : ℕ) → k < i → i ≤ length log → (nth log k).at < start log i
-  start_after zero k lt h = absurd (let z : ⊥ = omega arith in z)
-  start_after (suc i) k lt h = omega (arith, at_up k i (omega arith) (omega arith))
-
-  -- and not after the point itself
-  pub start_le : (i : ℕ) → i < length log → start log i ≤ (nth log i).at
-  start_le zero h = omega arith
-  start_le (suc i) h = omega (arith, rises_by_place log is i (suc i) origin (omega arith) h)
-
-  -- one point more of the high table
-  pub high_more : (old cur new : List ℕ) (i from : ℕ) → i < length log → from ≡ start log i → new ≡ part cur from ((nth log i).at + 1) (nth log i).value → cur ≡ filled (high_table log) from old → new ≡ filled (high_table log) ((nth log i).at + 1) old
-  high_more old cur new i from h s w e =
-      w ∙ filled_more (high_table log) old cur from ((nth log i).at + 1) (nth log i).value (omega (arith, start_le i h)) (λ x a b. high_to log i x h (λ k lt. omega (arith, start_after i k lt (omega arith))) (omega arith)) e
-
-  -- after the last point the high table is written
-  pub high_all : (old cur : List ℕ) (i from : ℕ) → 0 < i → i ≡ length log → from ≡ start log i → cur ≡ filled (high_table log) from old → cur ≡ written (high_table log) (span_of log) old
-  high_all old cur zero from some h s e = absurd (let z : ⊥ = omega arith in z)
-  high_all old cur (suc i) from some h s e = e ∙ ap (λ n. filled (high_table log) n old) (s ∙ ap (λ n. n + 1) (at_end i (omega arith)))
+  -- the high table has inside a gap the value after it
+  pub high_draws : ((u v w : ℕ) → finds u v w → w ≡ v) → (log : List Point) → IsLog (span_of log) log → Draws finds (high_table log) log
+  high_draws is [] log_is = absurd log_is
+  high_draws is (p ∷ ps) log_is = high_drawn is (high_table (p ∷ ps)) p ps log_is.2 (λ x h. refl)

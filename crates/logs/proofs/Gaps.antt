@@ -1,7 +1,7 @@
 -- Where an argument belongs in a log, and what stands beside it. Assumes nothing.
-use Rattle.std.proofs.Common.{◌≡◌, ℕ, zero, suc, ◌+◌, ◌-◌, ◌<◌, ◌≤◌, true, false, cond, eqb, ltb, List, [], ◌∷◌, length, get_or, sym, refl, ap, ◌∙◌, subst, ⊎_elim, one-add, arith}
+use Rattle.std.proofs.Common.{◌≡◌, ℕ, zero, suc, ◌+◌, ◌-◌, ◌<◌, ◌≤◌, true, false, cond, eqb, ltb, leb, List, [], ◌∷◌, length, get_or, sym, refl, ap, ◌∙◌, subst, ⊎_elim, one-add, arith}
 use Rattle.std.specs.List.{insert as inserted}
-use Rattle.std.proofs.lemmas.List.{get_or_default}
+use Rattle.std.specs.List.Sorted.{IsNonDecreasingBy, IsPartitionPoint}
 use Rattle.std.proofs.lemmas.Bool.{cases_lt, lt-ltb, le-ltb, le-leb, lt-leb, eq-eqb, ne_eqb, cond-true, cond-false, true≢false}
 use Rattle.std.proofs.lemmas.Bool.Decides.{nat_tests}
 use Rattle.tables.specs.declared.points.Point.{Point}
@@ -12,21 +12,17 @@ use Rattle.logs.specs.Fits.{place, origin, Beside, Goes}
 use Rattle.logs.specs.Held.{is_log}
 use Rattle.logs.proofs.Sound.{is_log_lem, log_passes}
 
--- the points before `from` lie at or before x, those from `to` on after it
-pub record Split (log : List Point) (x from to : ℕ) : Type 0 where
-  pub before : (k : ℕ) (d : Point) → k < from → (get_or log k d).at ≤ x
-  pub after : (k : ℕ) (d : Point) → to ≤ k → k < length log → x < (get_or log k d).at
+-- the point at place i
+abbrev pub nth : List Point → ℕ → Point
+nth log i = get_or log i origin
 
--- where both meet, that is the place
-pub place_by : (x : ℕ) (log : List Point) (i : ℕ) → i ≤ length log → Split log x i i → place x log ≡ i
+-- the place up to which arguments are at most x is that of x
+pub place_by : (x : ℕ) (log : List Point) (i : ℕ) → i ≤ length log → IsPartitionPoint (λ (p : Point). leb p.at x ≡ true) (λ p. leb p.at x ≡ false) log i → place x log ≡ i
 place_by x [] i h s = omega arith
-place_by x (p ∷ ps) zero h s = cond-false _ _ _ (lt-leb p.at x (s.after 0 p (omega arith) (omega arith)))
+place_by x (p ∷ ps) zero h s = cond-false _ _ _ (s.1 0 p (omega arith) (omega arith))
 place_by x (p ∷ ps) (suc i) h s =
-    cond-true _ _ _ (le-leb p.at x (s.before 0 p (omega arith)))
-    ∙ ap (λ m. 1 + m) (place_by x ps i (omega arith) (record {
-      before = λ k d lt. s.before (suc k) d (omega arith);
-      after = λ k d le lt. s.after (suc k) d (omega arith) (omega arith);
-    }))
+    cond-true _ _ _ (s.0 0 p (omega arith) (omega arith))
+    ∙ ap (λ m. 1 + m) (place_by x ps i (omega arith) (λ k d le lt. s.0 (suc k) d (omega arith) (omega arith), λ k d le lt. s.1 (suc k) d (omega arith) (omega arith)))
     ∙ one-add i
 
 -- a point goes in at its place
@@ -56,34 +52,13 @@ pub rises_by_place : (log : List Point) → IsLog (span_of log) log → (i j : �
 rises_by_place [] is i j d lt h = absurd is
 rises_by_place (p ∷ ps) is i j d lt h = rises_between p ps is.2 i j d lt h
 
-module _ (log : List Point) (x from to m : ℕ) (is : IsLog (span_of log) log) (h : m < length log) (e : Point) (s : Split log x from to) where
-  -- the point at m lies at or before x, and so do those before it
-  pub split_after : (get_or log m e).at ≤ x → Split log x (m + 1) to
-  split_after le = record {
-    before = λ k d lt.
-        ⊎_elim
-        (λ (a : k < m). omega (arith, here d, rises_by_place log is k m d a h))
-        (λ (b : m ≤ k). subst (λ i. (get_or log i d).at ≤ x) (omega arith) (here d))
-        (cases_lt k m);
-    after = s.after;
-  }
-    where
-      here : (d : Point) → (get_or log m d).at ≤ x
-      here d = subst (λ (q : Point). q.at ≤ x) (get_or_default log m e d h) le
-
-  -- the point at m lies after x, and so do those after it
-  pub split_before : x < (get_or log m e).at → Split log x from m
-  split_before lt = record {
-    before = s.before;
-    after = λ k d le short.
-        ⊎_elim
-        (λ (a : m < k). omega (arith, here d, rises_by_place log is m k d a short))
-        (λ (b : k ≤ m). subst (λ i. x < (get_or log i d).at) (omega arith) (here d))
-        (cases_lt m k);
-  }
-    where
-      here : (d : Point) → x < (get_or log m d).at
-      here d = subst (λ (q : Point). x < q.at) (get_or_default log m e d h) lt
+-- and do not fall
+pub at_up : (log : List Point) → IsLog (span_of log) log → IsNonDecreasingBy (λ (p : Point). p.at) log
+at_up log is i j d le h =
+    ⊎_elim
+    (λ (lt : i < j). omega (arith, rises_by_place log is i j d lt h))
+    (λ (ge : j ≤ i). subst (λ m. (get_or log i d).at ≤ (get_or log m d).at) {x = i} {y = j} (omega arith) (omega arith))
+    (cases_lt i j)
 
 -- the last point at or before x
 abbrev prior : Point → List Point → ℕ → Point
@@ -171,6 +146,11 @@ beside (p ∷ ps) x is =
       above = high_at_place p ps x origin;
     }
 
+-- no argument is above the last
+pub at_le_last : (p : Point) (ps : List Point) → Rising p ps → p.at ≤ (last_of p ps).at
+at_le_last p [] r = omega arith
+at_le_last p (q ∷ ps) r = omega (arith, r.0, at_le_last q ps r.2)
+
 last_at_end : (p : Point) (ps : List Point) (d : Point) → get_or (p ∷ ps) (length (p ∷ ps) - 1) d ≡ last_of p ps
 last_at_end p [] d = refl
 last_at_end p (q ∷ ps) d =
@@ -193,17 +173,19 @@ ends_at (p ∷ ps) is =
     let last = ap (λ (q : Point). q.value) (last_at_end p ps origin) in
     (refl, last, omega (arith, last, value_le_last p ps is.2))
 
--- a point that does not misfit goes in at its place
-pub goes : (log : List Point) (p : Point) → is_log log ≡ true → Inner (span_of log) p.at → has p.at log ≡ false → length log < 256 → low_table log p.at ≤ p.value → p.value ≤ high_table log p.at → Goes log p (place p.at log)
-goes log p is inner out room lo hi =
+-- a point that does not misfit goes in at its place i
+pub goes : (log : List Point) (p : Point) → is_log log ≡ true → Inner (span_of log) p.at → (i : ℕ) → i ≡ place p.at log → ((nth log (i - 1)).at ≡ p.at → ⊥) → length log < 256 → (nth log (i - 1)).value ≤ p.value → p.value ≤ (nth log i).value → Goes log p i
+goes log p sound inner i here new room lo hi =
     let n = span_of log in
-    let log_is = is_log_lem log is in
-    let after = insert_is_log n p.at p.value log log_is inner out lo hi in
+    let is = is_log_lem log sound in
+    let at : Beside log p.at i = subst (Beside log p.at) (sym here) (beside log p.at is) in
+    let out : has p.at log ≡ false = at.known ∙ ne_eqb (nth log (i - 1)).at p.at new in
+    let after = insert_is_log n p.at p.value log is inner out (omega (arith, at.below)) (omega (arith, at.above inner.1 out)) in
     record {
-      within = place_le p.at log;
+      within = at.within;
       room = room;
-      inserts = sym (insert_at_place p log);
+      inserts = ap (λ k. inserted log k p) here ∙ sym (insert_at_place p log);
       longer = insert-length p log;
       sound = log_passes n (insert p log) after;
-      span = insert_span n p log log_is inner.1;
+      span = insert_span n p log is inner.1;
     }

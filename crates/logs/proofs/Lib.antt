@@ -1,6 +1,6 @@
 pub mod Shifts
 pub mod Sound
 pub mod Gaps
+pub mod Walking
 pub mod Adding
-pub mod Taking
 pub mod Filling

@@ -2,3 +2,4 @@ pub mod Held
 pub mod Points
 pub mod Fits
 pub mod Buffers
+pub mod Words

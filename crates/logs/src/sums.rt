@@ -1,41 +1,41 @@
-// The limits of a log's sum.
-ghost use Rattle.std.specs.Prelude.{◌≡◌, ◌*◌, ◌/◌, ◌<◌, ◌≤◌, true};
-ghost use Rattle.tables.specs.Least.{least_width};
-ghost use Rattle.tables.specs.Log.{span_of, SharpLimits};
-ghost use Rattle.logs.specs.Held.{is_log};
+// The limits of a log's sum, and what no plan undercuts.
+ghost use Rattle.std.specs.Prelude.{◌≡◌, ◌-◌, length};
+ghost use Rattle.tables.specs.Log.{span_of, first_value, last_value, SharpLimits};
+ghost use Rattle.tables.specs.Theorems.{promise};
+ghost use Rattle.logs.specs.Points.{points};
 
 use super::limits::Limits;
-use tables::{Point, least_width};
+use super::logs::Log;
+use tables::least_width;
 
-// Adds up gap by gap: below the low limit a gap has its first value throughout, below the high one its last.
-pub(crate) fn limits_of(points: &[Point]) -> Limits
-    requires rises { is_log points.now ≡ true }
-    requires short { span_of points.now ≤ 1000000 }
-    ensures { SharpLimits points.now result.low result.high }
-{
-    let mut low = 0;
-    let mut high = 0;
-    let last = points.len() - 1;
-    for i in 0..last {
-        let p = points[i];
-        let q = points[i + 1];
-        let inner = (q.at - p.at - 1) as u64;
-        low += p.value as u64 + inner * p.value as u64;
-        high += p.value as u64 + inner * q.value as u64;
+impl Log {
+    // The limits of the sum of every table that agrees with the log, by the formula and sharp.
+    pub fn limits(&self) -> Limits
+        ensures { SharpLimits (points self.now) result.low result.high }
+    {
+        let mut low = 0;
+        let mut high = 0;
+        // inside a gap, the low limit has the value before it throughout, the high one that after it
+        for &[p, q] in self.points().array_windows::<2>() {
+            let inner = u64::from(q.at - p.at - 1);
+            let (before, after) = (u64::from(p.value), u64::from(q.value));
+            low += before + inner * before;
+            high += before + inner * after;
+        }
+        let top = u64::from(self.last());
+        Limits {
+            low: low + top,
+            high: high + top,
+        }
     }
-    let top = points[last].value as u64;
-    Limits {
-        low: low + top,
-        high: high + top,
-    }
-}
 
-// The steepest even rise over the span, times the least width that as many answers can leave.
-pub(crate) fn promised(span: u32, rise: u32, answers: usize) -> u64
-    requires some { 0 < span }
-    requires short { span ≤ 1000000 }
-    requires few { answers ≤ 256 }
-    ensures { result ≡ rise / span * least_width span answers }
-{
-    (rise / span) as u64 * least_width(span, answers as u32)
+    // The width that no plan with as many answers undercuts on every table between the same ends:
+    // the steepest even rise over the span, times the least width that as many answers can leave.
+    pub fn promise(&self) -> u64
+        ensures { result ≡ promise (span_of (points self.now)) (first_value (points self.now)) (last_value (points self.now)) (length (points self.now) - 2) }
+    {
+        let (first, last) = self.ends();
+        let steepest = (last.value - first.value) / last.at;
+        u64::from(steepest) * least_width(last.at, self.answers() as u32)
+    }
 }

@@ -8,7 +8,6 @@ ghost use Rattle.logs.specs.Points.{points};
 use super::logs::Log;
 use super::misfits::{BadEnds, Misfit};
 use super::places::Places;
-use super::search::fit;
 use tables::Point;
 
 impl Log {
@@ -48,12 +47,8 @@ impl Log {
     pub fn insert(&mut self, p: Point) -> Result<(), Misfit>
         ensures { Decided (λ e. e) (misfit (points self.old) p) result (λ _. points self.new ≡ insert p (points self.old)) (self.new ≡ self.old) }
     {
-        match fit(self.places.shown(), p) {
-            Ok(i) => {
-                self.places.put(i, p);
-                Ok(())
-            }
-            Err(misfit) => Err(misfit),
-        }
+        let i = self.fit(p)?;
+        self.places.put(i, p);
+        Ok(())
     }
 }

@@ -1,13 +1,16 @@
-use Rattle.std.proofs.Common.{refl}
-use Rattle.logs.specs.Held.{held}
-use Rattle.logs.proofs.Taking.{refuses, takes}
+use Rattle.std.proofs.Common.{◌∙◌, refl}
+use Rattle.std.proofs.lemmas.Result.{err_from_is_err_and}
+use Rattle.logs.specs.Fits.{misfit}
+use Rattle.logs.specs.Points.{points}
+use Rattle.denials.proofs.Passing.{denied, accepted}
 use Rattle.logs.proofs.logs.Log.insert.Goals as goal
 
-pub returns-in-Ok : goal.returns-in-Ok
-returns-in-Ok c =
-    takes (held c.args.self.now.places) c.shown.result.now c.args.p c.shown.ensures c.in-Ok.i _ _
-    c.in-Ok.ensures.refused c.in-Ok.ensures.goes c.put.ensures.0
+pub returns-in_err-i : goal.returns-in_err-i
+returns-in_err-i c =
+    let p = err_from_is_err_and c.from_residual.result c.from_residual.ensures.1 in
+    rw (p.1, p.2) (denied (λ m. m) (misfit (points c.args.self.now) c.args.p) c.in_err-i.field-0.0 (λ _. Unit {0}) (Unit {0}) _ _ c.in_err-i.ensures.refused refl)
 
-pub returns-in-Err : goal.returns-in-Err
-returns-in-Err c =
-    refuses (held c.args.self.now.places) c.shown.result.now c.args.p c.shown.ensures c.in-Err.misfit _ _ c.in-Err.ensures.refused refl
+pub returns : goal.returns
+returns c =
+    accepted (λ m. m) (misfit (points c.args.self.now) c.args.p) c.in_ok-i.i tt (λ _. Unit {0}) (Unit {0}) _ _
+    c.in_ok-i.ensures.refused (c.put.ensures.0 ∙ c.in_ok-i.ensures.goes.inserts)
