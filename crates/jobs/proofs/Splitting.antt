@@ -1,7 +1,8 @@
 -- The words of a line, one after the other, and the lines of a sheet. Assumes nothing.
-use Rattle.std.proofs.Common.{◌≡◌, ℕ, suc, ◌+◌, ◌<◌, Bool, true, false, eqb, List, [], ◌∷◌, length, get_or, drop, sym, refl, ap, ◌∙◌, arith}
-use Rattle.std.proofs.lemmas.Bool.{eqb-true, eq-eqb, ne_eqb}
-use Rattle.std.proofs.lemmas.List.{drop_more}
+use Rattle.std.proofs.Common.{◌≡◌, ℕ, suc, ◌+◌, Bool, true, false, cond, eqb, List, [], ◌∷◌, length, drop, sym, refl, ap, ◌∙◌, arith}
+use Rattle.std.proofs.lemmas.Bool.{eqb-true}
+use Rattle.std.proofs.lemmas.List.Recursion.{is_position_or_len}
+use Rattle.std.specs.List.{position_or_len}
 use Rattle.words.specs.Words.{up_to_gap}
 use Rattle.jobs.specs.Lines.{on_first, lines_of, words_of, line_of}
 use Rattle.jobs.specs.Reading.{tail_words}
@@ -36,9 +37,13 @@ lines_at b (c ∷ cs) = go (eqb b 10) refl (lines_at c cs)
     go true e h = rw e refl
     go false e h = rw e (before_line b (c ∷ cs) h)
 
--- the line from a place on, by the byte there
-pub line_step : (sheet : List ℕ) (i : ℕ) → i < length sheet → (get_or sheet i 0 ≡ 10 → ⊥) → line_of (drop i sheet) ≡ get_or sheet i 0 ∷ line_of (drop (i + 1) sheet)
-line_step sheet i lt ne = rw (drop_more sheet i 0 lt, ne_eqb (get_or sheet i 0) 10 ne) refl
-
-pub line_stop : (sheet : List ℕ) (i : ℕ) → i < length sheet → get_or sheet i 0 ≡ 10 → line_of (drop i sheet) ≡ []
-line_stop sheet i lt e = rw (drop_more sheet i 0 lt, eq-eqb (get_or sheet i 0) 10 e) refl
+-- a line goes up to its byte 10, or else to the end
+pub length-line : (bs : List ℕ) → position_or_len (λ b. eqb b 10) bs ≡ length (line_of bs)
+length-line bs = sym (is_position_or_len (λ xs. length (line_of xs)) (λ b. eqb b 10) refl step bs)
+  where
+    step : (b : ℕ) (xs : List ℕ) → length (line_of (b ∷ xs)) ≡ cond (eqb b 10) 0 (1 + length (line_of xs))
+    step b xs = go (eqb b 10)
+      where
+        go : (t : Bool) → length (cond t [] (b ∷ line_of xs)) ≡ cond t 0 (1 + length (line_of xs))
+        go true = refl
+        go false = omega arith

@@ -1,5 +1,4 @@
 pub mod Lines
 pub mod Jobs
-pub mod Values
 pub mod Said
 pub mod Reading

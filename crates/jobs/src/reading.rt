@@ -1,117 +1,72 @@
 // Reading what a line asks for, word by word.
-ghost use Rattle.std.specs.Prelude.{◌≡◌, ℕ, drop};
-ghost use Rattle.jobs.specs.Jobs.{diagonal_of, run_of, formed, job_of, spacing, widest, numbers_of};
+ghost use Rattle.std.specs.Prelude.{◌≡◌, length, drop, IfSome};
+ghost use Rattle.std.specs.Option.{option_map};
+ghost use Rattle.words.specs.Borrowed.{rest};
+ghost use Rattle.words.specs.Words.{up_to_gap};
+ghost use Rattle.jobs.specs.Jobs.{formed, job_of, numbers_of};
 ghost use Rattle.jobs.specs.Lines.{line_of};
 ghost use Rattle.jobs.specs.Reading.{letter_in, number_in, tail_words, ReadAs};
 ghost use Rattle.jobs.specs.Said.{said};
-ghost use Rattle.jobs.specs.Values.{listed};
 
 use super::jobs::Job;
-use super::values::Values;
-use words::{Word, number_of, word_at};
+use arrayvec::ArrayVec;
+use plans::Way;
+use words::{Cursor, Word, number_of};
 
 // What the line that begins at a place asks for; none where it is of another form.
-pub fn job_at(sheet: &[u8], at: usize) -> Option<Job>
-    ensures { said result ≡ job_of (line_of (drop at sheet.now)) }
+pub fn job_at(cursor: Cursor) -> Option<Job>
+    ensures { said result ≡ job_of (line_of (rest cursor.entry)) }
 {
-    let letter = letter_at(sheet, at)?;
-    let values = numbers_from(sheet, at + 1)?;
+    let letter = letter_at(cursor)?;
+    let values = numbers_from(cursor.skip(1))?;
     form(letter, values)
 }
 
 // The letter that stands at a place as a word.
-fn letter_at(sheet: &[u8], at: usize) -> Option<u8>
-    ensures { result ≡ letter_in (drop at sheet.now) }
+fn letter_at(cursor: Cursor) -> Option<u8>
+    ensures { result ≡ letter_in (rest cursor.entry) }
 {
-    match word_at(sheet, at) {
-        Some(Word::Letter(word, _)) => word.first().copied(),
-        _ => None,
-    }
+    let Word::Letter(word, _) = cursor.word()? else {
+        return None;
+    };
+    word.first().copied()
 }
 
 // The number that stands at a place as a word, and the place after it.
-fn number_at(sheet: &[u8], at: usize) -> Option<(u32, usize)>
-    ensures { result ≡ number_in (drop at sheet.now) at }
+fn number_at(cursor: Cursor<'_>) -> Option<(u32, Cursor<'_>)>
+    ensures number { option_map (λ p. p.0) result ≡ number_in (rest cursor.entry) }
+    ensures after { IfSome result (λ p. rest p.1 ≡ drop (length (up_to_gap (rest cursor.entry))) (rest cursor.entry)) }
 {
-    let word = word_at(sheet, at)?;
-    match word {
-        Word::Number(bytes, place) => match number_of(bytes) {
-            Some(n) => Some((n, place + bytes.len())),
-            None => None,
-        },
-        _ => None,
-    }
+    let Word::Number(bytes, _) = cursor.word()? else {
+        return None;
+    };
+    Some((number_of(bytes)?, cursor.skip(bytes.len())))
 }
 
 // The numbers from a place on, each after one space, to the line's end;
 // none where another word stands among them, or they are more than 64.
-fn numbers_from(sheet: &[u8], from: usize) -> Option<Values>
-    ensures { ReadAs (numbers_of (tail_words (drop from sheet.now))) result }
+fn numbers_from(start: Cursor) -> Option<ArrayVec<u32, 64>>
+    ensures { ReadAs (numbers_of (tail_words (rest start.entry))) result }
 {
-    let mut values = Values::none();
-    let mut place = from;
-    while place < sheet.len() && sheet[place] == b' ' {
-        let Some((n, after)) = number_at(sheet, place + 1) else {
-            return None;
-        };
-        if !values.put(n) {
-            return None;
-        }
-        place = after;
+    let mut values: ArrayVec<u32, 64> = ArrayVec::new();
+    let mut cursor = start;
+    while let [b' ', ..] = cursor.rest() {
+        let (n, after) = number_at(cursor.skip(1))?;
+        values.try_push(n).ok()?;
+        cursor = after;
     }
     Some(values)
 }
 
 // What a letter and the numbers after it ask for.
-fn form(letter: u8, values: Values) -> Option<Job>
-    ensures { said result ≡ formed letter (listed values) }
+fn form(letter: u8, values: ArrayVec<u32, 64>) -> Option<Job>
+    ensures { said result ≡ formed letter values.items }
 {
-    match letter {
-        b'd' => diagonal_of(values.as_slice()),
-        b't' => table_of(values),
-        b'e' => spacing_of(values.as_slice()),
-        b'w' => widest_of(values.as_slice()),
-        _ => None,
-    }
-}
-
-// A diagonal takes two numbers.
-fn diagonal_of(numbers: &[u32]) -> Option<Job>
-    ensures { said result ≡ diagonal_of numbers.now }
-{
-    match numbers {
-        [span, rise] => Some(Job::Diagonal(*span, *rise)),
-        _ => None,
-    }
-}
-
-// A table takes at least one.
-fn table_of(values: Values) -> Option<Job>
-    ensures { said result ≡ formed 116 (listed values) }
-{
-    if values.as_slice().is_empty() {
-        None
-    } else {
-        Some(Job::Table(values))
-    }
-}
-
-// Equal spacing takes one.
-fn spacing_of(numbers: &[u32]) -> Option<Job>
-    ensures { said result ≡ run_of spacing numbers.now }
-{
-    match numbers {
-        [questions] => Some(Job::Spacing(*questions)),
-        _ => None,
-    }
-}
-
-// And so does the widest rectangle.
-fn widest_of(numbers: &[u32]) -> Option<Job>
-    ensures { said result ≡ run_of widest numbers.now }
-{
-    match numbers {
-        [questions] => Some(Job::Widest(*questions)),
+    match (letter, values.as_slice()) {
+        (b'd', [span, rise]) => Some(Job::Diagonal(*span, *rise)),
+        (b't', [_, ..]) => Some(Job::Table(values)),
+        (b'e', [questions]) => Some(Job::Run(Way::EqualSpacing, *questions)),
+        (b'w', [questions]) => Some(Job::Run(Way::WidestRectangle, *questions)),
         _ => None,
     }
 }

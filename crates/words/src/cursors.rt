@@ -1,5 +1,5 @@
 // A place on a sheet, and the word that stands there.
-ghost use Rattle.std.specs.Prelude.{◌≡◌};
+ghost use Rattle.std.specs.Prelude.{◌≡◌, ◌+◌, ◌-◌, ◌^◌, min, drop};
 ghost use Rattle.words.specs.Words.{up_to_gap, lexed};
 ghost use Rattle.words.specs.Borrowed.{rest, lexemes};
 
@@ -18,6 +18,18 @@ impl<'a> Cursor<'a> {
         ensures { result.now ≡ rest self.entry }
     {
         self.sheet.get(self.at..).unwrap_or(&[])
+    }
+
+    // The place so many bytes further on, or the last place that a number can name.
+    pub fn skip(self, count: usize) -> Cursor<'a>
+        ensures sheet { result.sheet ≡ self.entry.sheet }
+        ensures place { result.at ≡ min (self.entry.at + count) (2 ^ 64 - 1) }
+        ensures rest { rest result ≡ drop count (rest self.entry) }
+    {
+        Cursor {
+            at: self.at.saturating_add(count),
+            ..self
+        }
     }
 
     // The word that begins at the place, or the line's end; none where neither stands there.

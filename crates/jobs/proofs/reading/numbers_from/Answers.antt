@@ -1,35 +1,27 @@
-use Rattle.std.proofs.Common.{◌+◌, drop, sym, ap, ◌∙◌}
-use Rattle.std.proofs.lemmas.List.{drop_all}
-use Rattle.std.proofs.lemmas.Bool.{ltb-false}
-use Rattle.jobs.specs.Jobs.{numbers_of, formed_of}
-use Rattle.jobs.specs.Reading.{tail_words}
-use Rattle.jobs.specs.Values.{listed}
-use Rattle.jobs.proofs.Taking.{with_front, numbered_some, numbered_none, take_more, take_none, take_full, take_all_of, tail_other}
+use Rattle.std.proofs.Common.{◌≡◌, ◌∙◌, ◌≤◌, length, get_or, drop, ap, sym, arith, rules}
+use Rattle.words.specs.Borrowed.{rest}
+use Rattle.words.specs.Words.{up_to_gap}
+use Rattle.jobs.specs.Jobs.{formed_of}
+use Rattle.jobs.specs.Reading.{number_in}
+use Rattle.jobs.proofs.Taking.{take_none, take_full, take_more}
 use Rattle.jobs.proofs.reading.numbers_from.Goals as goal
 
-pub returns-in_default : goal.returns-in_default
-returns-in_default c k =
-    ap (formed_of k) c.loop-place.invariant
-    ∙ take_none c.args.sheet.now c.loop-place.place (listed c.loop-place.values) k c.loop-place-test.true c.if-sheet-place-eq32.true (numbered_none (drop (c.loop-place.place + 1) c.args.sheet.now) (c.loop-place.place + 1) c.in_default.ensures)
+pub returns-in_err-n : goal.returns-in_err-n
+returns-in_err-n c =
+    let space : get_or c.rest.result.now 0 0 ≡ 32 = search rules in
+    rw c.from_residual.ensures (λ k. ap (formed_of k) c.loop-cursor.invariant
+    ∙ take_none (rest c.loop-cursor.cursor) c.loop-cursor.values.items k (omega (arith, ap length c.rest.ensures)) (ap (λ bs. get_or bs 0 0) (sym c.rest.ensures) ∙ space) (c.in_err-n.ensures.number ∙ ap number_in c.skip.ensures.rest))
 
-pub returns-then-not-put : goal.returns-then-not-put
-returns-then-not-put c k =
-    ap (formed_of k) c.loop-place.invariant
-    ∙ take_full c.args.sheet.now c.loop-place.place c.in-Some.n (listed c.loop-place.values) k c.loop-place-test.true c.if-sheet-place-eq32.true (numbered_some (drop (c.loop-place.place + 1) c.args.sheet.now) (c.loop-place.place + 1) c.in-Some.n c.in-Some.after c.in-Some.ensures).0 (ltb-false _ _ (sym c.if-not-put.ensures.room))
+pub returns-in_err-ok : goal.returns-in_err-ok
+returns-in_err-ok c =
+    let space : get_or c.rest.result.now 0 0 ≡ 32 = search rules in
+    let full : 64 ≤ length c.loop-cursor.values.items = search rules in
+    rw c.from_residual-in_err-ok.ensures (λ k. ap (formed_of k) c.loop-cursor.invariant
+    ∙ take_full (rest c.loop-cursor.cursor) c.in_ok-n.n c.loop-cursor.values.items k (omega (arith, ap length c.rest.ensures)) (ap (λ bs. get_or bs 0 0) (sym c.rest.ensures) ∙ space) (c.in_ok-n.ensures.number ∙ ap number_in c.skip.ensures.rest) full)
 
-pub loop-place-preserved : goal.loop-place-preserved
-loop-place-preserved c =
-    let was = numbered_some (drop (c.loop-place.place + 1) c.args.sheet.now) (c.loop-place.place + 1) c.in-Some.n c.in-Some.after c.in-Some.ensures in
-    c.loop-place.invariant
-    ∙ take_more c.args.sheet.now c.loop-place.place c.in-Some.n (listed c.loop-place.values) (listed c.put.new.self) c.loop-place-test.true c.if-sheet-place-eq32.true was.0 (c.put.ensures.put c.if-not-put.false)
-    ∙ ap (λ p. with_front (listed c.put.new.self) (numbers_of (tail_words (drop p c.args.sheet.now)))) (sym was.1)
-
-pub returns-else-sheet-place-eq32 : goal.returns-else-sheet-place-eq32
-returns-else-sheet-place-eq32 c =
-    c.loop-place.invariant
-    ∙ take_all_of c.args.sheet.now c.loop-place.place (listed c.loop-place.values) (tail_other c.args.sheet.now c.loop-place.place c.loop-place-test.true c.if-sheet-place-eq32.false)
-
-pub returns-after-loop-place : goal.returns-after-loop-place
-returns-after-loop-place c =
-    c.loop-place.invariant
-    ∙ take_all_of c.args.sheet.now c.loop-place.place (listed c.loop-place.values) (ap tail_words (drop_all c.loop-place.place c.args.sheet.now c.loop-place-test.false))
+pub loop-cursor-preserved : goal.loop-cursor-preserved
+loop-cursor-preserved c =
+    let space : get_or c.rest.result.now 0 0 ≡ 32 = search rules in
+    c.loop-cursor.invariant
+    ∙ take_more (rest c.loop-cursor.cursor) (rest c.in_ok-n.after) c.in_ok-n.n c.loop-cursor.values.items c.try_push.new.self.items (omega (arith, ap length c.rest.ensures)) (ap (λ bs. get_or bs 0 0) (sym c.rest.ensures) ∙ space) (c.in_ok-n.ensures.number ∙ ap number_in c.skip.ensures.rest)
+    (c.in_ok-n.ensures.after ∙ ap (λ bs. drop (length (up_to_gap bs)) bs) c.skip.ensures.rest) (search rules)
