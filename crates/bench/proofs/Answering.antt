@@ -1,5 +1,5 @@
 -- A question that may be asked is answered without a denial. Assumes nothing.
-use Rattle.std.proofs.Common.{◌≡◌, ℕ, ◌≤◌, false, not, eqb, ltb, leb, List, Some, None, Ok, Err, Option, refl, ap, ◌∙◌, subst, arith}
+use Rattle.std.proofs.Common.{◌≡◌, ℕ, ◌≤◌, false, not, eqb, ltb, leb, List, Some, None, Ok, Err, Option, Result, IsOk, rules, sym, refl, ap, ◌∙◌, subst, arith}
 use Rattle.std.proofs.lemmas.Bool.{le-ltb, le-leb, eq-eqb, or_from, and_from, cond-true}
 use Rattle.std.specs.Option.{option_map}
 use Rattle.denials.specs.declared.Denial.{Denial}
@@ -39,11 +39,15 @@ counted_is t N x y h e =
 -- and the ticket does not come back
 pub never_back :
     (t : Table) (N : ℕ) (v : View) (x : ℕ) → NeverFalls t 0 N → Ready t N v x →
-    (o : Option (ℕ × List ℕ)) (w : View) (ticket : Ticket) (R : Type 0) → Decided {E = Denial} told o (Ok ticket) (λ k. (k ≡ ticket_of v.mark x) × (w ≡ taken v x)) R →
-    (y : ℕ) → Some y ≡ counted t N x →
-    (back : Returned) (P : Unit {0} → Type 0) (Q : Type 0) → Decided told_back (option_map told_back (answer_denied w ticket y)) (Err back) P Q → ⊥
-never_back t N v x rises r o w ticket R took y k back P Q h =
-    let (e, f) = promised told o ticket (λ k. (k ≡ ticket_of v.mark x) × (w ≡ taken v x)) R took in
-    let value = counted_is t N x y (omega (arith, r.inner.1)) k in
+    (o : Option (ℕ × List ℕ)) (took : Result Ticket Denial) (w : View) (R : Type 0) → Decided told o took (λ k. (k ≡ ticket_of v.mark x) × (w ≡ taken v x)) R → (ticket : Ticket) → took ≡ Ok ticket →
+    (told_by : Option ℕ) → told_by ≡ counted t N x → (y : ℕ) → told_by ≡ Some y →
+    (r : Result (Unit {0}) Returned) (P : Unit {0} → Type 0) (Q : Type 0) → Decided told_back (option_map told_back (answer_denied w ticket y)) r P Q → IsOk r
+never_back t N v x rises r o took w R gave ticket g told_by k y l back P Q h =
+    let (e, f) = promised told o ticket (λ k. (k ≡ ticket_of v.mark x) × (w ≡ taken v x)) R (subst (λ u. Decided told o u (λ k. (k ≡ ticket_of v.mark x) × (w ≡ taken v x)) R) g gave) in
+    let value = counted_is t N x y (omega (arith, r.inner.1)) (sym l ∙ k) in
     let none : answer_denied w ticket y ≡ None = (λ i. answer_denied (f i) (e i) (value i)) ∙ answers t N v x rises r in
-    subst (λ (o : Option Returned). Decided told_back (option_map told_back o) (Err back) P Q) none h
+    go back (subst (λ (o : Option Returned). Decided told_back (option_map told_back o) back P Q) none h)
+  where
+    go : (r : Result (Unit {0}) Returned) → Decided told_back None r P Q → IsOk r
+    go (Ok u) h = search rules
+    go (Err e) h = absurd h

@@ -1,5 +1,5 @@
 -- The calls of a run on its readout, none of which is denied. Assumes nothing.
-use Rattle.std.proofs.Common.{◌≡◌, ℕ, suc, ◌-◌, true, false, eqb, leb, List, ◌∷◌, length, Some, None, sym, refl, ap, ◌∙◌, subst, arith}
+use Rattle.std.proofs.Common.{◌≡◌, ℕ, suc, ◌-◌, false, eqb, leb, List, ◌∷◌, length, Some, None, Ok, Result, sym, refl, ap, ◌∙◌, subst, arith}
 use Rattle.std.proofs.lemmas.Bool.{ne_eqb, lt-leb, or_from}
 use Rattle.tables.specs.declared.points.Point.{Point}
 use Rattle.tables.specs.Log.{IsLog, Agrees, span_of, insert}
@@ -12,7 +12,9 @@ use Rattle.tables.proofs.Unknown.{span_of_log}
 use Rattle.readout.specs.declared.events.Event.{Event}
 use Rattle.readout.specs.declared.events.Event.TheVariants.{Take, Answer}
 use Rattle.readout.specs.declared.events.Outcome.{Outcome}
-use Rattle.readout.specs.declared.events.Outcome.TheVariants.{Given, Answered, Denied, Back}
+use Rattle.readout.specs.declared.events.Outcome.TheVariants.{Given, Answered}
+use Rattle.readout.specs.declared.events.Refusal.{Refusal}
+use Rattle.readout.specs.declared.events.Refusal.TheVariants.{Denied, Back}
 use Rattle.readout.specs.Calls.{take_denied, not_inner, taken, unless, stepped}
 use Rattle.readout.specs.Past.{past, after, accepted}
 use Rattle.readout.specs.Tickets.{ticket_of}
@@ -30,12 +32,12 @@ takes t N v x r =
 -- two calls that are accepted, and what comes after them
 two_steps :
     (v : View) (e f : Event) (es : List Event) (v₁ v₂ : View) (o₁ o₂ : Outcome) →
-    stepped v e ≡ (v₁, o₁) → stepped v₁ f ≡ (v₂, o₂) → accepted o₁ ≡ true → accepted o₂ ≡ true → NoneDenied (past v₂ es) →
+    stepped v e ≡ (v₁, Ok o₁) → stepped v₁ f ≡ (v₂, Ok o₂) → NoneDenied (past v₂ es) →
     (after v (e ∷ f ∷ es) ≡ after v₂ es) × NoneDenied (past v (e ∷ f ∷ es))
-two_steps v e f es v₁ v₂ o₁ o₂ s₁ s₂ a₁ a₂ rest =
-    let both : stepped (stepped v e).0 f ≡ (v₂, o₂) = ap (λ (p : View × Outcome). stepped p.0 f) s₁ ∙ s₂ in (
-      ap (λ (p : View × Outcome). after p.0 es) both,
-      (ap (λ (p : View × Outcome). accepted p.1) s₁ ∙ a₁, (ap (λ (p : View × Outcome). accepted p.1) both ∙ a₂, subst (λ (p : View × Outcome). NoneDenied (past p.0 es)) (sym both) rest)),
+two_steps v e f es v₁ v₂ o₁ o₂ s₁ s₂ rest =
+    let both : stepped (stepped v e).0 f ≡ (v₂, Ok o₂) = ap (λ (p : View × Result Outcome Refusal). stepped p.0 f) s₁ ∙ s₂ in (
+      ap (λ (p : View × Result Outcome Refusal). after p.0 es) both,
+      (ap (λ (p : View × Result Outcome Refusal). accepted p.1) s₁, (ap (λ (p : View × Result Outcome Refusal). accepted p.1) both, subst (λ (p : View × Result Outcome Refusal). NoneDenied (past p.0 es)) (sym both) rest)),
     )
 
 -- one question, asked and answered
@@ -43,7 +45,7 @@ one_asked : (t : Table) (N : ℕ) → NeverFalls t 0 N → (v : View) (x : ℕ) 
 one_asked t N rises v x xs r rest =
     two_steps v (Take x) (Answer (ticket_of v.mark x) (t x)) (askings t v.mark xs) (taken v x) (asked v x (t x)) (Given (ticket_of v.mark x)) Answered
     (ap (λ o. unless o Denied v (taken v x, Given (ticket_of v.mark x))) (takes t N v x r))
-    (ap (λ o. unless o Back (taken v x) (asked v x (t x), Answered)) (answers t N v x rises r)) refl refl rest
+    (ap (λ o. unless o Back (taken v x) (asked v x (t x), Answered)) (answers t N v x rises r)) rest
 
 -- the readout at rest with these points and questions left
 abbrev resting : List Point → ℕ → ℕ → View

@@ -40,12 +40,11 @@ pub record Started (t : Table) (N : ℕ) (v : View) : Type 0 where
   pub points : v.points ≡ fresh N (t 0) (t N)
   pub rests : v.out ≡ None
 
--- from the view v to the view w the plan asked r questions, each answered by the table
-pub record Completed (plan : Plan) (t : Table) (v w : View) (r : ℕ) : Type 0 where
+-- from the view v to the view w the plan asked its questions, each answered by the table
+pub record Completed (plan : Plan) (t : Table) (v w : View) : Type 0 where
   pub questions : List ℕ
   pub run : Run plan t v.left v.points questions w.points
-  pub asked : r ≡ length questions
-  pub left : w.left + r ≡ v.left
+  pub left : w.left + length questions ≡ v.left
   pub mark : w.mark ≡ v.mark
   pub rests : w.out ≡ None
 

@@ -7,36 +7,26 @@ use loggers::Logger;
 use plans::Plan;
 use readout::Readout;
 
-// Asks one question: takes its ticket, asks the logger, and answers.
+// Asks one question: takes its ticket, asks the logger, and answers. None of the three can fail here.
 pub(crate) fn ask_one<L: Logger>(logger: &L, place: &mut Readout, x: u32)
     requires { Ready (L.Logger.table logger.now) (L.Logger.extent logger.now) (view place.old) x }
     ensures { view place.new ≡ asked (view place.old) x (L.Logger.table logger.now x) }
 {
-    match place.take(x) {
-        Ok(ticket) => match logger.count(x) {
-            Some(value) => match place.answer(ticket, value) {
-                Ok(()) => {}
-                Err(_returned) => unreachable(),
-            },
-            None => unreachable(),
-        },
-        Err(_) => unreachable(),
-    }
+    let ticket = place.take(x).unwrap();
+    let value = logger.count(x).unwrap();
+    place.answer(ticket, value).unwrap();
 }
 
-// Asks while questions are left, each the plan's answer for the log so far; gives how many were asked.
-pub(crate) fn ask_all<L: Logger, P: Plan>(logger: &L, plan: &mut P, place: &mut Readout) -> u32
+// Asks while questions are left, each the plan's answer for the log so far.
+pub(crate) fn ask_all<L: Logger, P: Plan>(logger: &L, plan: &mut P, place: &mut Readout)
     requires { Started (L.Logger.table logger.now) (L.Logger.extent logger.now) (view place.old) }
     ensures same { P.Plan.asks plan.new ≡ P.Plan.asks plan.old }
-    ensures ran { Completed (P.Plan.asks plan.old) (L.Logger.table logger.now) (view place.old) (view place.new) result }
+    ensures ran { Completed (P.Plan.asks plan.old) (L.Logger.table logger.now) (view place.old) (view place.new) }
 {
-    let mut asked = 0;
     while place.left() > 0 {
         let Some(x) = plan.next(place.log()) else {
-            return asked;
+            return;
         };
         ask_one(logger, place, x);
-        asked += 1;
     }
-    asked
 }

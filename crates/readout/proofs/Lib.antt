@@ -1,5 +1,4 @@
 pub mod Noting
-pub mod Same
 pub mod Tops
 pub mod Clear
 pub mod Ends

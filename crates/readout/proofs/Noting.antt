@@ -1,11 +1,12 @@
 -- Of a point for an argument that the log lacks, only the value can stand in the way. Assumes nothing.
-use Rattle.std.proofs.Common.{◌≡◌, ℕ, ◌<◌, ◌≤◌, Bool, true, false, cond, not, ◌&&◌, ltb, ◌↔◌, List, length, Some, None, Ok, Err, Result, refl, ap, ◌∙◌, subst, arith}
+use Rattle.std.proofs.Common.{◌≡◌, ℕ, ◌<◌, ◌≤◌, Bool, true, false, cond, not, ◌&&◌, ltb, ◌↔◌, List, length, Some, None, Ok, Err, Result, IsErrAnd, MatchResult, refl, ap, ◌∙◌, subst, arith}
 use Rattle.std.proofs.lemmas.Bool.{and_parts, or_parts, or_from, not-true, ltb-true, ltb-false, le-ltb, lt-leb, ne_eqb}
 use Rattle.tables.specs.declared.points.Point.{Point}
 use Rattle.tables.specs.Log.{has, insert, low_table, high_table, span_of}
 use Rattle.tables.specs.Plan.{unknown}
 use Rattle.tables.specs.Table.{Inner}
 use Rattle.tables.proofs.Inserts.{insert-length}
+use Rattle.denials.specs.declared.Denial.{Denial}
 use Rattle.denials.specs.Checks.{Decided}
 use Rattle.logs.specs.Fits.{misfit}
 use Rattle.logs.specs.declared.misfits.Misfit.{Misfit}
@@ -55,12 +56,14 @@ module _ (log : List Point) (p : Point) (u : unknown log p.at ≡ true) (h : len
   by_value : (r : Result (Unit {0}) Misfit) → Decides r → Told (out_of_order log p.at p.value) r (after ≡ insert p log) Q
   by_value r d = subst (λ o. Decided (λ e. e) o r (λ _. after ≡ insert p log) Q) (misfit_by_value log p u h) d
 
-  -- a point that went in was in order
-  pub went_in : Decides (Ok tt) → Noted log p after
-  went_in d =
+  -- a point that went in was in order, and one that did not was out of order
+  pub noted :
+      {Says : Misfit → Denial → Type 0} (r : Result (Unit {0}) Misfit) (s : Result (Unit {0}) Denial) → Decides r →
+      MatchResult r (λ x. s ≡ Ok x) (λ e. IsErrAnd s (Says e)) → ((e : Misfit) (d : Denial) → Says e d → d ≡ Denial.OutOfOrder) →
+      MatchResult s (λ _. Noted log p after) (λ d. (d ≡ Denial.OutOfOrder) × (out_of_order log p.at p.value ≡ true) × Q)
+  noted (Ok _) (Ok _) d m says =
       let t = taken _ _ _ (by_value (Ok tt) d) in
       record { in_order = t.0; inserts = t.1; longer = ap length t.1 ∙ insert-length p log }
-
-  -- one that did not was out of order
-  pub stayed_out : (e : Misfit) → Decides (Err e) → (out_of_order log p.at p.value ≡ true) × Q
-  stayed_out e d = refused _ e _ _ (by_value (Err e) d)
+  noted (Ok _) (Err e) d m says = absurd (let z : ◌≡◌ {A = ℕ} 0 1 = cc in omega arith)
+  noted (Err e) (Ok _) d m says = absurd m
+  noted (Err e) (Err k) d m says = let t = refused _ e _ _ (by_value (Err e) d) in (says e k m, t.0, t.1)

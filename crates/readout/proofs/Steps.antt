@@ -1,5 +1,5 @@
 -- What one call keeps and what it changes. Assumes nothing.
-use Rattle.std.proofs.Common.{◌≡◌, ℕ, ◌+◌, true, false, List, [], ◌∷◌, length, Some, None, Option, sym, refl, ap, subst, arith}
+use Rattle.std.proofs.Common.{◌≡◌, ℕ, ◌+◌, true, false, List, [], ◌∷◌, length, Some, None, Ok, Err, Option, sym, refl, ap, subst, arith}
 use Rattle.tables.specs.declared.points.Point.{Point}
 use Rattle.tables.specs.Log.{IsLog, span_of, Agrees, has}
 use Rattle.tables.specs.Table.{Inner, diagonal}
@@ -7,7 +7,9 @@ use Rattle.tables.proofs.Inserts.{insert_is_log, insert-length, insert_agrees}
 use Rattle.readout.specs.declared.events.Event.{Event}
 use Rattle.readout.specs.declared.events.Event.TheVariants.{Take, Answer, Withdraw, Limits}
 use Rattle.readout.specs.declared.events.Outcome.{Outcome}
-use Rattle.readout.specs.declared.events.Outcome.TheVariants.{Given, Answered, Withdrawn, Denied, Back}
+use Rattle.readout.specs.declared.events.Outcome.TheVariants.{Given, Answered, Withdrawn}
+use Rattle.readout.specs.declared.events.Refusal.{Refusal}
+use Rattle.readout.specs.declared.events.Refusal.TheVariants.{Denied, Back}
 use Rattle.readout.specs.declared.tickets.Ticket.{Ticket}
 use Rattle.readout.specs.Calls.{take_denied, taken, answer_denied, answered, withdraw_denied, withdrawn, not_out, out_of_order, unless, stepped}
 use Rattle.readout.specs.Out.{tickets, asks_new}
@@ -42,7 +44,7 @@ module _ (N A B : ℕ) (v : View) (s : Sound N A B v) where
   still c t a w = record { sound = s; points = omega arith; left = omega arith; out = omega arith; agrees = λ k h _. h }
 
   -- an accepted take
-  takes : (x : ℕ) → take_denied v x ≡ None → Moved N A B v (Take x, Given (ticket_of v.mark x)) (taken v x)
+  takes : (x : ℕ) → take_denied v x ≡ None → Moved N A B v (Take x, Ok (Given (ticket_of v.mark x))) (taken v x)
   takes x e =
       let clear = take_clear v x e in
       record {
@@ -60,7 +62,7 @@ module _ (N A B : ℕ) (v : View) (s : Sound N A B v) where
       (omega (arith, parts.0, span_is N v.points s.log), parts.1)
 
   -- an accepted answer
-  answers : (t : Ticket) (y : ℕ) → answer_denied v t y ≡ None → Moved N A B v (Answer t y, Answered) (answered v t.at y)
+  answers : (t : Ticket) (y : ℕ) → answer_denied v t y ≡ None → Moved N A B v (Answer t y, Ok Answered) (answered v t.at y)
   answers t y e =
       let log = v.points in
       let x = t.at in
@@ -83,7 +85,7 @@ module _ (N A B : ℕ) (v : View) (s : Sound N A B v) where
       }
 
   -- an accepted withdrawal
-  withdraws : (t : Ticket) → withdraw_denied v t ≡ None → Moved N A B v (Withdraw t, Withdrawn) (withdrawn v)
+  withdraws : (t : Ticket) → withdraw_denied v t ≡ None → Moved N A B v (Withdraw t, Ok Withdrawn) (withdrawn v)
   withdraws t e =
       let out = is_out v t (passed (not_out v t) _ _ e).0 in
       record {
@@ -95,13 +97,13 @@ module _ (N A B : ℕ) (v : View) (s : Sound N A B v) where
       }
 
   -- a call with its checks moves as it does where one fails, or as it does where none does
-  either : {E : Type 0} (o : Option E) (tell : E → Outcome) (e : Event) (done : View × Outcome) → ((d : E) → Moved N A B v (e, tell d) v) → (o ≡ None → Moved N A B v (e, done.1) done.0) → let p = unless o tell v done in Moved N A B v (e, p.1) p.0
+  either : {E : Type 0} (o : Option E) (tell : E → Refusal) (e : Event) (done : View × Outcome) → ((d : E) → Moved N A B v (e, Err (tell d)) v) → (o ≡ None → Moved N A B v (e, Ok done.1) done.0) → let p = unless o tell v done in Moved N A B v (e, p.1) p.0
   either (Some d) tell e done fails clear = fails d
   either None tell e done fails clear = clear refl
 
   -- every call counts for what it gave
   pub moves : (e : Event) → Moved N A B v (e, (stepped v e).1) (stepped v e).0
-  moves (Take x) = either (take_denied v x) Denied (Take x) _ (λ d. still (Take x, Denied d) refl refl refl) (takes x)
-  moves (Answer t y) = either (answer_denied v t y) Back (Answer t y) _ (λ r. still (Answer t y, Back r) refl refl refl) (answers t y)
-  moves (Withdraw t) = either (withdraw_denied v t) Back (Withdraw t) _ (λ r. still (Withdraw t, Back r) refl refl refl) (withdraws t)
+  moves (Take x) = either (take_denied v x) Denied (Take x) _ (λ d. still (Take x, Err (Denied d)) refl refl refl) (takes x)
+  moves (Answer t y) = either (answer_denied v t y) Back (Answer t y) _ (λ r. still (Answer t y, Err (Back r)) refl refl refl) (answers t y)
+  moves (Withdraw t) = either (withdraw_denied v t) Back (Withdraw t) _ (λ r. still (Withdraw t, Err (Back r)) refl refl refl) (withdraws t)
   moves Limits = still (Limits, (stepped v Limits).1) refl refl refl

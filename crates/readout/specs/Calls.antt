@@ -1,5 +1,5 @@
 -- The calls of a readout: the checks of each in their order, and what it does where none fails. Assumes nothing.
-use Rattle.std.specs.Prelude.{ℕ, ◌+◌, ◌-◌, Bool, true, false, not, ◌||◌, List, [], ◌∷◌, length, is_some, Some, None, Option, ◌==◌, nat_le, nat_lt}
+use Rattle.std.specs.Prelude.{ℕ, ◌+◌, ◌-◌, Bool, true, false, not, ◌||◌, List, [], ◌∷◌, length, is_some, Some, None, Ok, Err, Option, Result, ◌==◌, nat_le, nat_lt}
 use Rattle.denials.specs.Bounds.{bad_span, bad_budget}
 use Rattle.denials.specs.Checks.{first}
 use Rattle.denials.specs.declared.Denial.{Denial}
@@ -9,7 +9,9 @@ use Rattle.tables.specs.Log.{fresh, has, insert, low, high, low_table, high_tabl
 use Rattle.readout.specs.declared.events.Event.{Event}
 use Rattle.readout.specs.declared.events.Event.TheVariants.{Take, Answer, Withdraw, Limits}
 use Rattle.readout.specs.declared.events.Outcome.{Outcome}
-use Rattle.readout.specs.declared.events.Outcome.TheVariants.{Given, Answered, Withdrawn, Limited, Denied, Back}
+use Rattle.readout.specs.declared.events.Outcome.TheVariants.{Given, Answered, Withdrawn, Limited}
+use Rattle.readout.specs.declared.events.Refusal.{Refusal}
+use Rattle.readout.specs.declared.events.Refusal.TheVariants.{Denied, Back}
 use Rattle.readout.specs.declared.events.Summary.{Summary}
 use Rattle.readout.specs.declared.tickets.Ticket.{Ticket}
 use Rattle.readout.specs.declared.tickets.Returned.{Returned}
@@ -72,22 +74,21 @@ abbrev pub summary : View → Summary
 summary v = record { low = low v.points; high = high v.points; answers = length v.points - 2 }
 
 -- where an error stands in the way it is told, and nothing changes
-abbrev pub unless : {E : Type 0} → Option E → (E → Outcome) → View → View × Outcome → View × Outcome
-unless (Some e) tell v done = (v, tell e)
-unless None tell v done = done
+abbrev pub unless : {E : Type 0} → Option E → (E → Refusal) → View → View × Outcome → View × Result Outcome Refusal
+unless (Some e) tell v done = (v, Err (tell e))
+unless None tell v done = (done.0, Ok done.1)
 
--- one call: the view after it, and what it gave
-abbrev pub stepped : View → Event → View × Outcome
+-- one call: the view after it, and what it gave or why it was refused
+abbrev pub stepped : View → Event → View × Result Outcome Refusal
 stepped v (Take x) = unless (take_denied v x) Denied v (taken v x, Given (ticket_of v.mark x))
 stepped v (Answer t y) = unless (answer_denied v t y) Back v (answered v t.at y, Answered)
 stepped v (Withdraw t) = unless (withdraw_denied v t) Back v (withdrawn v, Withdrawn)
-stepped v Limits = (v, Limited (summary v))
+stepped v Limits = (v, Ok (Limited (summary v)))
 
--- whether a call that gave this changes the readout
-abbrev pub changes : Outcome → Bool
-changes (Given t) = true
-changes Answered = true
-changes Withdrawn = true
-changes (Limited s) = false
-changes (Denied d) = false
-changes (Back r) = false
+-- whether a call that came to this changes the readout
+abbrev pub changes : Result Outcome Refusal → Bool
+changes (Ok (Given t)) = true
+changes (Ok Answered) = true
+changes (Ok Withdrawn) = true
+changes (Ok (Limited s)) = false
+changes (Err r) = false

@@ -2,13 +2,6 @@
 use Rattle.std.specs.Prelude.{ℕ, Bool, true, List, Some, None, Option}
 use Rattle.tables.specs.declared.points.Point.{Point}
 use Rattle.tables.specs.Plan.{unknown}
-use Rattle.readout.specs.declared.states.State.{State}
-use Rattle.readout.specs.declared.states.State.TheVariants.{Resting, Waiting}
-
--- the argument of the ticket that is out
-abbrev pub out_of : State → Option ℕ
-out_of Resting = None
-out_of (Waiting x) = Some x
 
 -- how many tickets are out
 abbrev pub tickets : Option ℕ → ℕ

@@ -1,5 +1,5 @@
 -- Pasts: any row of calls on one readout from its opening on, denied ones included. Assumes nothing.
-use Rattle.std.specs.Prelude.{◌≡◌, ℕ, ◌+◌, ◌*◌, ◌≤◌, Bool, true, false, cond, ◌&&◌, List, [], ◌∷◌, length, None}
+use Rattle.std.specs.Prelude.{◌≡◌, ℕ, ◌+◌, ◌*◌, ◌≤◌, Bool, true, false, cond, ◌&&◌, List, [], ◌∷◌, length, is_ok, None, Result}
 use Rattle.tables.specs.declared.points.Point.{Point}
 use Rattle.tables.specs.Least.{least_width}
 use Rattle.tables.specs.Log.{IsLog, last_of, width}
@@ -7,14 +7,14 @@ use Rattle.tables.specs.Table.{diagonal}
 use Rattle.readout.specs.declared.events.Event.{Event}
 use Rattle.readout.specs.declared.events.Event.TheVariants.{Take, Answer, Withdraw, Limits}
 use Rattle.readout.specs.declared.events.Outcome.{Outcome}
-use Rattle.readout.specs.declared.events.Outcome.TheVariants.{Given, Answered, Withdrawn, Limited, Denied, Back}
+use Rattle.readout.specs.declared.events.Refusal.{Refusal}
 use Rattle.readout.specs.Calls.{open_denied, opened, stepped, summary}
 use Rattle.readout.specs.Out.{tickets}
 use Rattle.readout.specs.Views.{View}
 
--- a call with what it gave
+-- a call with what it gave, or why it was refused
 abbrev pub Call : Type 0
-Call = Event × Outcome
+Call = Event × Result Outcome Refusal
 
 -- the calls of a past
 abbrev pub past : View → List Event → List Call
@@ -26,14 +26,9 @@ abbrev pub after : View → List Event → View
 after v [] = v
 after v (e ∷ es) = after (stepped v e).0 es
 
--- accepted means not denied
-abbrev pub accepted : Outcome → Bool
-accepted (Given t) = true
-accepted Answered = true
-accepted Withdrawn = true
-accepted (Limited s) = true
-accepted (Denied d) = false
-accepted (Back r) = false
+-- accepted means not refused
+abbrev pub accepted : Result Outcome Refusal → Bool
+accepted = is_ok
 
 -- the kinds of calls that are counted
 abbrev pub is_take : Event → Bool

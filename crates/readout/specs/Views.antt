@@ -3,7 +3,6 @@ use Rattle.std.specs.Prelude.{ℕ, List, Option}
 use Rattle.tables.specs.declared.points.Point.{Point}
 use Rattle.logs.specs.Points as log
 use Rattle.readout.specs.declared.readouts.Readout.{Readout}
-use Rattle.readout.specs.Out.{out_of}
 
 -- the points known, the questions left, the mark, and the argument of the ticket that is out
 pub record View : Type 0 where
@@ -13,4 +12,4 @@ pub record View : Type 0 where
   pub out : Option ℕ
 
 abbrev pub view : Readout → View
-view r = record { points = log.points r.log; left = r.left; mark = r.mark; out = out_of r.state }
+view r = record { points = log.points r.log; left = r.left; mark = r.mark; out = r.out }

@@ -7,7 +7,7 @@ ghost use Rattle.readout.specs.Calls.{take_denied, taken, answer_denied, answere
 ghost use Rattle.readout.specs.Tickets.{ticket_of, told_back};
 ghost use Rattle.readout.specs.Views.{view};
 
-use super::events::{Event, Outcome};
+use super::events::{Event, Outcome, Refusal};
 use super::readouts::Readout;
 use super::tickets::{Returned, Ticket};
 use denials::Denial;
@@ -18,8 +18,8 @@ impl Readout {
         ensures { Decided told (option_map told (take_denied (view self.old) x)) result (λ t. (t ≡ ticket_of (view self.old).mark x) × (view self.new ≡ taken (view self.old) x)) (self.new ≡ self.old) }
     {
         match self.step(Event::Take(x)) {
-            Outcome::Given(ticket) => Ok(ticket),
-            Outcome::Denied(denial) => Err(denial),
+            Ok(Outcome::Given(ticket)) => Ok(ticket),
+            Err(Refusal::Denied(denial)) => Err(denial),
             _ => unreachable(),
         }
     }
@@ -29,8 +29,8 @@ impl Readout {
         ensures { Decided told_back (option_map told_back (answer_denied (view self.old) ticket value)) result (λ _. view self.new ≡ answered (view self.old) ticket.at value) (self.new ≡ self.old) }
     {
         match self.step(Event::Answer(ticket, value)) {
-            Outcome::Answered => Ok(()),
-            Outcome::Back(returned) => Err(returned),
+            Ok(Outcome::Answered) => Ok(()),
+            Err(Refusal::Back(returned)) => Err(returned),
             _ => unreachable(),
         }
     }
@@ -40,8 +40,8 @@ impl Readout {
         ensures { Decided told_back (option_map told_back (withdraw_denied (view self.old) ticket)) result (λ _. view self.new ≡ withdrawn (view self.old)) (self.new ≡ self.old) }
     {
         match self.step(Event::Withdraw(ticket)) {
-            Outcome::Withdrawn => Ok(()),
-            Outcome::Back(returned) => Err(returned),
+            Ok(Outcome::Withdrawn) => Ok(()),
+            Err(Refusal::Back(returned)) => Err(returned),
             _ => unreachable(),
         }
     }

@@ -1,4 +1,7 @@
-// The calls on an open readout as one type, and what they give.
+// The calls on an open readout as one type, what they give, and why they are refused.
+ghost use Rattle.std.specs.Prelude.{◌≡◌};
+ghost use Rattle.readout.specs.declared.events.Refusal.TheVariants.{Denied, Back};
+
 use super::tickets::{Returned, Ticket};
 use denials::Denial;
 
@@ -14,7 +17,7 @@ pub enum Event {
     Limits,
 }
 
-// What a call gave.
+// What an accepted call gave.
 pub enum Outcome {
     // a ticket
     Given(Ticket),
@@ -24,10 +27,30 @@ pub enum Outcome {
     Withdrawn,
     // the limits so far
     Limited(Summary),
+}
+
+// Why a call did nothing.
+pub enum Refusal {
     // take was denied
     Denied(Denial),
     // an answer or a withdrawal was denied, and the ticket comes back
     Back(Returned),
+}
+
+impl From<Denial> for Refusal {
+    ghost from_gives = { λ denial refusal. refusal ≡ Denied denial };
+
+    fn from(denial: Denial) -> Refusal {
+        Refusal::Denied(denial)
+    }
+}
+
+impl From<Returned> for Refusal {
+    ghost from_gives = { λ returned refusal. refusal ≡ Back returned };
+
+    fn from(returned: Returned) -> Refusal {
+        Refusal::Back(returned)
+    }
 }
 
 // The limits of the sum, and the number of answers that they rest on.

@@ -7,11 +7,10 @@ mod history;
 mod opening;
 mod reading;
 mod readouts;
-mod states;
 mod step;
 mod tickets;
 
-pub use events::{Event, Outcome, Summary};
+pub use events::{Event, Outcome, Refusal, Summary};
 pub use history::pasts_are_lawful;
 pub use readouts::Readout;
 pub use tickets::{Returned, Ticket};

@@ -1,13 +1,13 @@
 // How a readout comes about: a new place, and an opening that fills it.
 ghost use Rattle.std.specs.Prelude.{◌≡◌};
 ghost use Rattle.std.specs.Option.{option_map};
+ghost use Rattle.std.specs.Result.{result_err};
 ghost use Rattle.denials.specs.Checks.{Decided};
 ghost use Rattle.denials.specs.Told.{told};
 ghost use Rattle.readout.specs.Calls.{opened, open_denied};
 ghost use Rattle.readout.specs.Views.{view};
 
 use super::readouts::Readout;
-use super::states::State;
 use denials::Denial;
 use logs::Log;
 
@@ -20,7 +20,7 @@ impl Readout {
             log: Log::new(),
             left: 0,
             mark: 0,
-            state: State::Resting,
+            out: None,
         }
     }
 
@@ -35,31 +35,28 @@ impl Readout {
     ) -> Result<(), Denial>
         ensures { Decided told (option_map told (open_denied span first last budget)) result (λ _. view self.new ≡ opened span first last budget mark) (self.new ≡ self.old) }
     {
-        match open_denial(span, first, last, budget) {
-            Some(denial) => Err(denial),
-            None => {
-                // the log's own checks are among those passed
-                let _ = self.log.restart(span, first, last);
-                self.left = budget;
-                self.mark = mark;
-                self.state = State::Resting;
-                Ok(())
-            }
-        }
+        check_opening(span, first, last, budget)?;
+        // the log's own checks are among those passed
+        self.log.restart(span, first, last).unwrap();
+        self.left = budget;
+        self.mark = mark;
+        self.out = None;
+        Ok(())
     }
 }
 
 // The first check of an opening that fails.
-fn open_denial(span: u32, first: u32, last: u32, budget: u32) -> Option<Denial>
-    ensures { result ≡ open_denied span first last budget }
+fn check_opening(span: u32, first: u32, last: u32, budget: u32) -> Result<(), Denial>
+    ensures { result_err result ≡ open_denied span first last budget }
 {
     if span == 0 || span > 1_000_000 {
-        Some(Denial::Span)
-    } else if first > last {
-        Some(Denial::Ends)
-    } else if budget > 254 || budget > span - 1 {
-        Some(Denial::Budget)
-    } else {
-        None
+        return Err(Denial::Span);
     }
+    if first > last {
+        return Err(Denial::Ends);
+    }
+    if budget > 254 || budget > span - 1 {
+        return Err(Denial::Budget);
+    }
+    Ok(())
 }

@@ -8,7 +8,6 @@ ghost use Rattle.readout.specs.Views.{view};
 
 use super::events::Summary;
 use super::readouts::Readout;
-use super::states::State;
 use logs::{Limits, Log};
 
 impl Readout {
@@ -50,10 +49,7 @@ impl Readout {
     pub fn waiting(&self) -> Option<u32>
         ensures { result ≡ (view self.now).out }
     {
-        match self.state {
-            State::Resting => None,
-            State::Waiting(x) => Some(x),
-        }
+        self.out
     }
 
     // The limits of the total of levels: the last value at every argument, less the limits of the sum.

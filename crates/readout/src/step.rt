@@ -1,5 +1,6 @@
-// The readout's step: one call, by the state that it finds.
+// The readout's step: one call, by the ticket that it finds out.
 ghost use Rattle.std.specs.Prelude.{◌≡◌, ◌<◌, true, false, length, None, MatchResult};
+ghost use Rattle.std.specs.Result.{result_err};
 ghost use Rattle.denials.specs.declared.Denial.TheVariants.{OutOfOrder};
 ghost use Rattle.tables.specs.Plan.{unknown};
 ghost use Rattle.logs.specs.Points.{points};
@@ -8,9 +9,8 @@ ghost use Rattle.readout.specs.Noted.{Noted};
 ghost use Rattle.readout.specs.Tickets.{is_for};
 ghost use Rattle.readout.specs.Views.{view};
 
-use super::events::{Event, Outcome};
+use super::events::{Event, Outcome, Refusal};
 use super::readouts::Readout;
-use super::states::State;
 use super::tickets::{Returned, Ticket};
 use denials::Denial;
 use logs::Log;
@@ -18,41 +18,37 @@ use tables::Point;
 
 impl Readout {
     // Does what the event asks, or says why not and changes nothing.
-    pub fn step(&mut self, event: Event) -> Outcome
+    pub fn step(&mut self, event: Event) -> Result<Outcome, Refusal>
         ensures moves { (view self.new, result) ≡ stepped (view self.old) event }
         ensures keeps { changes result ≡ false → self.new ≡ self.old }
     {
-        match (self.state, event) {
-            (_, Event::Limits) => Outcome::Limited(self.limits()),
-            (State::Waiting(_), Event::Take(_)) => Outcome::Denied(Denial::TicketOut),
-            (State::Resting, Event::Take(x)) => match self.refusal(x) {
-                Some(denial) => Outcome::Denied(denial),
-                None => {
-                    self.left -= 1;
-                    self.state = State::Waiting(x);
-                    Outcome::Given(Ticket::new(self.mark, x))
-                }
-            },
-            (State::Waiting(x), Event::Answer(ticket, value)) if self.gave(&ticket, x) => {
-                match note(&mut self.log, Point { at: x, value }) {
-                    Ok(()) => {
-                        ticket.spend();
-                        self.state = State::Resting;
-                        Outcome::Answered
-                    }
-                    Err(denial) => Outcome::Back(Returned { denial, ticket }),
-                }
+        match (self.out, event) {
+            (_, Event::Limits) => Ok(Outcome::Limited(self.limits())),
+            (Some(_), Event::Take(_)) => Err(Denial::TicketOut.into()),
+            (None, Event::Take(x)) => {
+                self.check_question(x)?;
+                self.left -= 1;
+                self.out = Some(x);
+                Ok(Outcome::Given(Ticket::new(self.mark, x)))
             }
-            (State::Waiting(x), Event::Withdraw(ticket)) if self.gave(&ticket, x) => {
+            (Some(x), Event::Answer(ticket, value)) if self.gave(&ticket, x) => {
+                if let Err(denial) = note(&mut self.log, Point { at: x, value }) {
+                    return Err(Returned { denial, ticket }.into());
+                }
+                ticket.spend();
+                self.out = None;
+                Ok(Outcome::Answered)
+            }
+            (Some(x), Event::Withdraw(ticket)) if self.gave(&ticket, x) => {
                 ticket.spend();
                 self.left += 1;
-                self.state = State::Resting;
-                Outcome::Withdrawn
+                self.out = None;
+                Ok(Outcome::Withdrawn)
             }
-            (_, Event::Answer(ticket, _) | Event::Withdraw(ticket)) => Outcome::Back(Returned {
-                denial: Denial::NotThisTicket,
-                ticket,
-            }),
+            (_, Event::Answer(ticket, _) | Event::Withdraw(ticket)) => {
+                let denial = Denial::NotThisTicket;
+                Err(Returned { denial, ticket }.into())
+            }
         }
     }
 
@@ -63,20 +59,21 @@ impl Readout {
         ticket.mark() == self.mark && ticket.at() == x
     }
 
-    // Why a resting readout gives no ticket for x, if it does not.
-    fn refusal(&self, x: u32) -> Option<Denial>
+    // The first check that fails of a question for x, to a readout with no ticket out.
+    fn check_question(&self, x: u32) -> Result<(), Denial>
         requires { (view self.now).out ≡ None }
-        ensures { result ≡ take_denied (view self.now) x }
+        ensures { result_err result ≡ take_denied (view self.now) x }
     {
         if x == 0 || x >= self.log.span() {
-            Some(Denial::NotInner)
-        } else if self.log.has(x) {
-            Some(Denial::Known)
-        } else if self.left == 0 {
-            Some(Denial::NoneLeft)
-        } else {
-            None
+            return Err(Denial::NotInner);
         }
+        if self.log.has(x) {
+            return Err(Denial::Known);
+        }
+        if self.left == 0 {
+            return Err(Denial::NoneLeft);
+        }
+        Ok(())
     }
 }
 
@@ -86,8 +83,5 @@ fn note(log: &mut Log, p: Point) -> Result<(), Denial>
     requires room { length (points log.old) < 256 }
     ensures { MatchResult result (λ _. Noted (points log.old) p (points log.new)) (λ d. (d ≡ OutOfOrder) × (out_of_order (points log.old) p.at p.value ≡ true) × (log.new ≡ log.old)) }
 {
-    match log.insert(p) {
-        Ok(()) => Ok(()),
-        Err(_) => Err(Denial::OutOfOrder),
-    }
+    log.insert(p).map_err(|_| Denial::OutOfOrder)
 }
