@@ -6,23 +6,26 @@ mod lines;
 mod notes;
 mod words;
 
-use lines::{Line, read_line};
+use lines::read_line;
 use notes::Notes;
 use std::io;
 use std::io::{BufRead, BufReader};
 
 fn main(rt: HostRuntime) -> io::Result<()> {
     let mut notes = Notes::new();
-    let mut number = 0u64;
-    for text in BufReader::new(rt.alloc(), rt.stdin())?.lines(rt.alloc()) {
-        let text = text?;
-        number = number.saturating_add(1);
-        let line = read_line(text.as_str());
-        if !line.is_blank() {
-            let said = notes.enter(line);
-            println!(rt; "line {number}: {said}")?;
+    let lines = BufReader::new(rt.alloc(), rt.stdin())?.lines(rt.alloc());
+    for (number, text) in (1..=u64::MAX).zip(lines) {
+        match read_line(rt.alloc(), text?.as_str()) {
+            Ok(None) => {}
+            Ok(Some(line)) => match notes.enter(line) {
+                Ok(done) => println!(rt; "line {number}: {done}")?,
+                Err(refusal) => println!(rt; "line {number}: refused: {refusal}")?,
+            },
+            Err(fault) => println!(rt; "line {number}: refused: {fault}")?,
         }
     }
-    let summary = notes.summary();
-    println!(rt; "{summary}")
+    match notes.summary() {
+        Some(summary) => println!(rt; "{summary}"),
+        None => println!(rt; "no limits: the span and the two end values were never given"),
+    }
 }

@@ -1,109 +1,109 @@
 // The answers so far, and what each line does to them.
-ghost use Rattle.std.specs.Prelude.{◌≡◌, false};
-ghost use Rattle.logs.specs.Points.{points};
-ghost use Rattle.limits.specs.Noted.{said, kept, Summed};
+ghost use Rattle.std.specs.Prelude.{◌≡◌, None};
+ghost use Rattle.limits.specs.Noted.{known, said, kept, Summed};
+ghost use Rattle.limits.specs.declared.notes.Refusal.TheVariants as refusals;
 
 use super::lines::Line;
-use logs::{BadEnds, Log, Misfit};
+use logs::{BadEnds, Limits, Log, Misfit};
 use tables::Point;
 
+// A log, once the ends are known.
 #[derive(Drop)]
 pub struct Notes {
-    pub log: Log,
-    pub opened: bool,
+    pub log: Option<Log>,
 }
 
 // What a line led to.
-#[derive(Clone, Copy)]
-pub enum Said<'a> {
-    Opened(u32, u32, u32),
-    Unfit(BadEnds),
+#[derive(Clone, Copy, PartialEq, Eq, Debug)]
+pub enum Done {
+    Opened { span: u32, first: u32, last: u32 },
+    Taken(Point),
+}
+
+// Why a line led to nothing.
+#[derive(Clone, Copy, PartialEq, Eq, Debug)]
+pub enum Refusal {
+    Ends(BadEnds),
     OpenedBefore,
     NotOpened,
-    Taken(u32, u32),
-    Refused(Misfit),
-    NoNumber(&'a str),
-    Count(usize),
+    Point(Misfit),
 }
 
 // What the answers give in the end.
-#[derive(Clone, Copy)]
-pub enum Summary {
-    Nothing,
-    Found {
-        low: u64,
-        high: u64,
-        answers: usize,
-        promise: u64,
-    },
+#[derive(Clone, Copy, PartialEq, Eq, Debug)]
+pub struct Summary {
+    pub limits: Limits,
+    pub answers: usize,
+    pub promise: u64,
 }
 
 impl Notes {
     pub fn new() -> Notes
-        ensures { result.opened ≡ false }
+        ensures { known result ≡ None }
     {
-        Notes {
-            log: Log::new(),
-            opened: false,
-        }
+        Notes { log: None }
     }
 
     // Enters one line.
-    pub fn enter<'a>(&mut self, line: Line<'a>) -> Said<'a>
-        ensures said { result ≡ said self.old.opened (points self.old.log) line.entry }
-        ensures kept { (self.new.opened, points self.new.log) ≡ kept self.old.opened (points self.old.log) result }
+    pub fn enter(&mut self, line: Line) -> Result<Done, Refusal>
+        ensures said { result ≡ said (known self.old) line }
+        ensures kept { known self.new ≡ kept (known self.old) result }
     {
         match line {
-            Line::Ends(span, first, last) => self.start(span, first, last),
-            Line::Answer(at, value) => self.take_in(at, value),
-            Line::NoNumber(word) => Said::NoNumber(word),
-            Line::Count(count) => Said::Count(count),
-            Line::Blank => Said::Count(0),
+            Line::Ends { span, first, last } => self.start(span, first, last),
+            Line::Answer(point) => self.take_in(point),
         }
     }
 
-    fn start<'a>(&mut self, span: u32, first: u32, last: u32) -> Said<'a>
-        ensures said { result ≡ said self.old.opened (points self.old.log) (Line.Ends span first last) }
-        ensures kept { (self.new.opened, points self.new.log) ≡ kept self.old.opened (points self.old.log) result }
+    fn start(&mut self, span: u32, first: u32, last: u32) -> Result<Done, Refusal>
+        ensures said { result ≡ said (known self.old) (Line.Ends span first last) }
+        ensures kept { known self.new ≡ kept (known self.old) result }
     {
-        if self.opened {
-            return Said::OpenedBefore;
+        if self.log.is_some() {
+            return Err(Refusal::OpenedBefore);
         }
-        match self.log.restart(span, first, last) {
-            Ok(()) => {
-                self.opened = true;
-                Said::Opened(span, first, last)
-            }
-            Err(bad) => Said::Unfit(bad),
-        }
+        let mut log = Log::new();
+        log.restart(span, first, last)?;
+        self.log = Some(log);
+        Ok(Done::Opened { span, first, last })
     }
 
-    fn take_in<'a>(&mut self, at: u32, value: u32) -> Said<'a>
-        ensures said { result ≡ said self.old.opened (points self.old.log) (Line.Answer at value) }
-        ensures kept { (self.new.opened, points self.new.log) ≡ kept self.old.opened (points self.old.log) result }
+    fn take_in(&mut self, point: Point) -> Result<Done, Refusal>
+        ensures said { result ≡ said (known self.old) (Line.Answer point) }
+        ensures kept { known self.new ≡ kept (known self.old) result }
     {
-        if !self.opened {
-            return Said::NotOpened;
-        }
-        match self.log.insert(Point { at, value }) {
-            Ok(()) => Said::Taken(at, value),
-            Err(misfit) => Said::Refused(misfit),
-        }
+        let Some(log) = &mut self.log else {
+            return Err(Refusal::NotOpened);
+        };
+        log.insert(point)?;
+        Ok(Done::Taken(point))
     }
 
     // The limits that the answers set, where the ends are known.
-    pub fn summary(&self) -> Summary
-        ensures { Summed self.now.opened (points self.now.log) result }
+    pub fn summary(&self) -> Option<Summary>
+        ensures { Summed (known self.now) result }
     {
-        if !self.opened {
-            return Summary::Nothing;
-        }
-        let limits = self.log.limits();
-        Summary::Found {
-            low: limits.low,
-            high: limits.high,
-            answers: self.log.answers(),
-            promise: self.log.promise(),
-        }
+        let log = self.log.as_ref()?;
+        Some(Summary {
+            limits: log.limits(),
+            answers: log.answers(),
+            promise: log.promise(),
+        })
+    }
+}
+
+impl From<BadEnds> for Refusal {
+    ghost from_gives = { λ bad refusal. refusal ≡ refusals.Ends bad };
+
+    fn from(bad: BadEnds) -> Refusal {
+        Refusal::Ends(bad)
+    }
+}
+
+impl From<Misfit> for Refusal {
+    ghost from_gives = { λ misfit refusal. refusal ≡ refusals.Point misfit };
+
+    fn from(misfit: Misfit) -> Refusal {
+        Refusal::Point(misfit)
     }
 }

@@ -1,80 +1,64 @@
 // What is printed.
-use super::notes::{Said, Summary};
-use logs::{BadEnds, Misfit};
+use super::lines::Fault;
+use super::notes::{Done, Refusal, Summary};
+use logs::Limits;
 use std::fmt;
+use tables::Point;
 
-fn why_ends(bad: BadEnds) -> &'static str {
-    match bad {
-        BadEnds::Span => "the span must be from 1 to 1,000,000",
-        BadEnds::Order => "the first value is above the last",
-    }
-}
-
-fn why_point(misfit: Misfit) -> &'static str {
-    match misfit {
-        Misfit::NotInner => "the argument must lie strictly between 0 and the span",
-        Misfit::Known => "the argument has its answer already",
-        Misfit::Full => "the log is full, with 256 points",
-        Misfit::OutOfOrder => "the value must lie between those of the answers on either side",
-    }
-}
-
-impl fmt::Display for Said<'_> {
+impl fmt::Display for Done {
     fn fmt<W: fmt::Write>(&self, f: &mut fmt::Formatter<W>) -> fmt::Result {
-        match *self {
-            Said::Opened(span, first, last) => write!(
-                f,
-                "span {span}, values from {first} to {last}"
-            ),
-            Said::Unfit(bad) => {
-                let why = why_ends(bad);
-                write!(f, "refused: {why}")
+        match self {
+            Done::Opened { span, first, last } => {
+                write!(f, "span {span}, values from {first} to {last}")
             }
-            Said::OpenedBefore => write!(
-                f,
-                "refused: the span and the end values are known already"
-            ),
-            Said::NotOpened => write!(f, "refused: the span and the two end values come first"),
-            Said::Taken(at, value) => write!(f, "{value} at {at}"),
-            Said::Refused(misfit) => {
-                let why = why_point(misfit);
-                write!(f, "refused: {why}")
-            }
-            Said::NoNumber(word) => write!(
-                f,
-                "refused: {word:?} is no whole number up to 4,294,967,295"
-            ),
-            Said::Count(count) => write!(
-                f,
-                "refused: {count} numbers, where an answer has two and the ends have three"
-            ),
+            Done::Taken(Point { at, value }) => write!(f, "{value} at {at}"),
+        }
+    }
+}
+
+impl fmt::Display for Refusal {
+    fn fmt<W: fmt::Write>(&self, f: &mut fmt::Formatter<W>) -> fmt::Result {
+        match self {
+            Refusal::Ends(bad) => write!(f, "{bad}"),
+            Refusal::OpenedBefore => write!(f, "the span and the end values are known already"),
+            Refusal::NotOpened => write!(f, "the span and the two end values come first"),
+            Refusal::Point(misfit) => write!(f, "{misfit}"),
         }
     }
 }
 
 impl fmt::Display for Summary {
     fn fmt<W: fmt::Write>(&self, f: &mut fmt::Formatter<W>) -> fmt::Result {
-        match *self {
-            Summary::Nothing => write!(
-                f,
-                "no limits: the span and the two end values were never given"
-            ),
-            Summary::Found {
-                low,
-                high,
-                answers,
-                promise,
-            } => {
-                let width = high.saturating_sub(low);
-                writeln!(f, "low     {low}")?;
-                writeln!(f, "high    {high}")?;
-                writeln!(f, "width   {width}")?;
-                writeln!(f, "answers {answers}")?;
+        let Summary {
+            limits: Limits { low, high },
+            answers,
+            promise,
+        } = *self;
+        let width = self.limits.width();
+        writeln!(f, "low     {low}")?;
+        writeln!(f, "high    {high}")?;
+        writeln!(f, "width   {width}")?;
+        writeln!(f, "answers {answers}")?;
+        write!(
+            f,
+            "promise {promise} (no plan with as many answers can promise a smaller width)"
+        )
+    }
+}
+
+impl fmt::Display for Fault<'_> {
+    fn fmt<W: fmt::Write>(&self, f: &mut fmt::Formatter<W>) -> fmt::Result {
+        match self {
+            Fault::NoNumber(word) => {
+                write!(f, "{word:?} is no whole number up to 4,294,967,295")
+            }
+            Fault::Count(count) => {
                 write!(
                     f,
-                    "promise {promise} (no plan with as many answers can promise a smaller width)"
+                    "{count} numbers, where an answer has two and the ends have three"
                 )
             }
+            Fault::OutOfMemory => write!(f, "out of memory"),
         }
     }
 }
