@@ -12,11 +12,11 @@ use std::process::ExitCode;
 fn main(rt: HostRuntime) -> anyhow::Result<ExitCode> {
     // one byte more than a sheet may have, so that a longer one is seen to be longer
     let mut bytes = [0; 2_049];
+    let sheet = read_up_to(&mut rt.stdin(), &mut bytes)?;
     let mut out = [0; 36_864];
-    let count = read_up_to(&mut rt.stdin(), &mut bytes)?;
-    match run_sheet(&bytes[..count], &mut out) {
-        Ok(written) => rt.stdout().write_all(&out[..written])?,
-        Err(_) => return Ok(ExitCode::FAILURE),
-    }
+    let Ok(written) = run_sheet(sheet, &mut out) else {
+        return Ok(ExitCode::FAILURE);
+    };
+    rt.stdout().write_all(&out[..written])?;
     Ok(ExitCode::SUCCESS)
 }

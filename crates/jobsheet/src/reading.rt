@@ -4,9 +4,9 @@ ghost use Rattle.std.specs.Prelude.{◌≤◌, length, IfOk};
 use std::io;
 use std::io::Read;
 
-// Fills a row from its beginning with the bytes of an input, until either ends, and gives how many there are.
-pub fn read_up_to(input: &mut impl Read, row: &mut [u8]) -> io::Result<usize>
-    ensures { IfOk result (λ n. n ≤ length row.new) }
+// Fills a row from its beginning with the bytes of an input, until either ends, and gives the bytes that were read.
+pub fn read_up_to<'a>(input: &mut impl Read, row: &'a mut [u8]) -> io::Result<&'a [u8]>
+    ensures { IfOk result (λ read. length read.now ≤ length row.old) }
 {
     let mut count = 0;
     while count < row.len() {
@@ -16,5 +16,5 @@ pub fn read_up_to(input: &mut impl Read, row: &mut [u8]) -> io::Result<usize>
         }
         count += got;
     }
-    Ok(count)
+    Ok(&row[..count])
 }

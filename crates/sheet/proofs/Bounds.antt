@@ -1,23 +1,22 @@
--- The numbers of a reply are small. Assumes nothing.
-use Rattle.std.proofs.Common.{◌≡◌, ℕ, zero, suc, ◌+◌, ◌-◌, ◌*◌, ◌^◌, ◌<◌, ◌≤◌, Bool, true, false, ltb, List, [], ◌∷◌, Ok, sym, refl, ap, ◌∙◌, subst, arith}
-use Rattle.std.specs.List.{AllByRecursion}
+-- The figures of an accepted run are small. Assumes nothing.
+use Rattle.std.proofs.Common.{◌≡◌, ℕ, ◌+◌, ◌-◌, ◌*◌, ◌^◌, ◌<◌, ◌≤◌, Bool, true, false, ltb, [], ◌∷◌, List, Ok, sym, refl, ap, ◌∙◌, subst, arith}
 use Rattle.std.proofs.lemmas.Nat.{mul-le}
 use Rattle.std.proofs.lemmas.Bool.{or_parts, ltb-false}
 use Rattle.bench.specs.declared.running.Ran.{Ran}
-use Rattle.bench.specs.Runs.{RanOn, run_denied, budget_denied}
-use Rattle.denials.specs.Checks.{Decided, first}
-use Rattle.denials.specs.Told.{told}
-use Rattle.sheet.specs.declared.replies.Report.{Report}
-use Rattle.sheet.specs.declared.replies.Reply.TheVariants.{Ran as Ran'}
-use Rattle.sheet.specs.Replying.{replied}
-use Rattle.sheet.specs.Running.{report_of}
-use Rattle.sheet.specs.Sizes.{Small}
-use Rattle.sheet.proofs.Outcomes.{reported}
+use Rattle.bench.specs.Runs.{RanOn, budget_denied}
 use Rattle.bench.proofs.Measuring.{budget_below}
 use Rattle.denials.specs.Bounds.{bad_budget}
-use Rattle.loggers.specs.Meaning.{Sound, row_table}
+use Rattle.denials.specs.Checks.{Decided, first}
+use Rattle.denials.specs.Told.{told}
+use Rattle.denials.proofs.Passing.{promised}
+use Rattle.loggers.specs.Meaning.{Sound}
+use Rattle.plans.specs.declared.any_plans.AnyPlan.{AnyPlan}
+use Rattle.plans.specs.declared.ways.Way.{Way}
+use Rattle.plans.specs.Either.{asked_by, any_is_lawful}
+use Rattle.plans.specs.Ways.{plan_of, way_denied}
+use Rattle.readout.specs.declared.readouts.Readout.{Readout}
 use Rattle.readout.specs.Levels.{last_everywhere}
-use Rattle.readout.specs.Views.{View}
+use Rattle.readout.specs.Views.{View, view}
 use Rattle.readout.proofs.Tops.{above_all}
 use Rattle.tables.specs.declared.points.Point.{Point}
 use Rattle.tables.specs.Log.{IsLog, Agrees, span_of, high}
@@ -27,12 +26,8 @@ use Rattle.tables.proofs.Ends.{last_value_lem}
 use Rattle.tables.proofs.Limits.{width_is_gaps}
 use Rattle.tables.proofs.Runs.{lawful_asks_all}
 use Rattle.tables.proofs.Unknown.{span_of_log}
-
--- values of a row of 32 bits, and what stands past its end
-pub value_small : (vs : List ℕ) (k : ℕ) → AllByRecursion (λ v. v ≤ 4294967295) vs → row_table vs k < 2 ^ 32
-value_small [] k small = omega arith
-value_small (v ∷ vs) zero small = omega (arith, small.0)
-value_small (v ∷ vs) (suc k) small = value_small vs k small.1
+use Rattle.sheet.specs.Running.{Figures, figures_of}
+use Rattle.sheet.proofs.Outcomes.{reported}
 
 -- the limits of a log with 32-bit values and a span up to 1,000,000 have 16 digits
 high_small : (t : Table) (N : ℕ) (log : List Point) → IsLog N log → Agrees t log → N ≤ 1000000 → t N < 2 ^ 32 → high log < 10 ^ 16
@@ -53,7 +48,7 @@ pub record SmallRun (N k lo hi : ℕ) : Type 0 where
   pub limits : hi < 10 ^ 16
 
 -- what an accepted run gives is small
-pub ran_small : (plan : Plan) → Lawful plan → (t : Table) (N n m : ℕ) → Sound t N → bad_budget N n ≡ false → t N < 2 ^ 32 → (v : View) (ran : Ran) → RanOn plan t N n m v ran → SmallRun N ran.asked ran.low ran.high
+ran_small : (plan : Plan) → Lawful plan → (t : Table) (N n m : ℕ) → Sound t N → bad_budget N n ≡ false → t N < 2 ^ 32 → (v : View) (ran : Ran) → RanOn plan t N n m v ran → SmallRun N ran.asked ran.low ran.high
 ran_small plan lawful t N n m sound fine small v ran on =
     let few = budget_below N n sound.0 fine in
     let all = lawful_asks_all plan lawful t N n sound.2 few on.questions v.points on.run in
@@ -65,26 +60,27 @@ ran_small plan lawful t N n m sound fine small v ran on =
     }
 
 -- a run that was accepted had a budget that is
-pub accepted_run : (awake : Bool) → awake ≡ false → (N n : ℕ) (ran : Ran) (P : Ran → Type 0) (Q : Type 0) → Decided told (run_denied awake N n) (Ok ran) P Q → (bad_budget N n ≡ false) × P ran
-accepted_run awake asleep N n ran P Q h = go (bad_budget N n) refl (subst (λ b. Decided told (run_denied b N n) (Ok ran) P Q) asleep h)
+accepted_run : {X : Type 0} (N n : ℕ) (x : X) (P : X → Type 0) (Q : Type 0) → Decided told (budget_denied N n) (Ok x) P Q → (bad_budget N n ≡ false) × P x
+accepted_run N n x P Q h = go (bad_budget N n) refl h
   where
-    go : (bad : Bool) → bad_budget N n ≡ bad → Decided told (first ((bad, (3, [])) ∷ [])) (Ok ran) P Q → (bad_budget N n ≡ false) × P ran
+    go : (bad : Bool) → bad_budget N n ≡ bad → Decided told (first ((bad, (3, [])) ∷ [])) (Ok x) P Q → (bad_budget N n ≡ false) × P x
     go true e d = absurd d
     go false e d = (e, d)
 
--- the reply to an accepted run
-pub record Answer (letter : ℕ) (plan : Plan) (t : Table) (N n : ℕ) (r : Report) : Type 0 where
-  pub is : Ran' r ≡ replied (budget_denied N n) (report_of letter plan t N n)
-  pub small : Small (Ran' r)
+module _
+    (way : Way) (p : AnyPlan) (t : Table) (N n : ℕ) (r : Ran × Readout) (sound : Sound t N) (last : t N < 2 ^ 32)
+    (made : Decided told (way_denied way n) (Ok p) (λ q. asked_by q ≡ plan_of way n) (Unit {0}))
+    (ran : Decided told (budget_denied N n) (Ok r) (λ s. RanOn (asked_by p) t N n 0 (view s.1) s.0) (Unit {0}))
+  where
+    on : (bad_budget N n ≡ false) × RanOn (asked_by p) t N n 0 (view r.1) r.0
+    on = accepted_run N n r (λ s. RanOn (asked_by p) t N n 0 (view s.1) s.0) (Unit {0}) ran
 
-pub answer :
-    (letter : ℕ) (plan : Plan) → Lawful plan → (t : Table) (N n m : ℕ) → Sound t N → t N < 2 ^ 32 → (v : View) (ran : Ran) (awake : Bool) → awake ≡ false → (Q : Type 0) →
-    Decided told (run_denied awake N n) (Ok ran) (RanOn plan t N n m v) Q → (span : ℕ) → span ≡ N →
-    Answer letter plan t N n (record { letter = letter; span = span; asked = ran.asked; low = ran.low; high = ran.high })
-answer letter plan lawful t N n m sound fits v ran awake asleep Q h span is =
-    let on = accepted_run awake asleep N n ran (RanOn plan t N n m v) Q h in
-    let s = ran_small plan lawful t N n m sound on.0 fits v ran on.1 in
-    record {
-      is = ap Ran' (reported letter plan t N n m v ran span is on.1) ∙ rw on.0 refl;
-      small = (omega (arith, is, s.span), s.asked, s.order, s.limits);
-    }
+    -- the figures of an accepted run of the plan of this name are small
+    pub figures_small : SmallRun N r.0.asked r.0.low r.0.high
+    figures_small = ran_small (asked_by p) (any_is_lawful p) t N n 0 sound on.0 last (view r.1) r.0 on.1
+
+    -- and they are those of the run
+    pub figures_are : (span : ℕ) → span ≡ N → ◌≡◌ {A = Figures} (record { way = way; span = span; asked = r.0.asked; low = r.0.low; high = r.0.high }) (figures_of way t N n)
+    figures_are span is =
+        reported way t N n 0 (view r.1) r.0 span is
+        (subst (λ plan. RanOn plan t N n 0 (view r.1) r.0) (promised told (way_denied way n) p (λ q. asked_by q ≡ plan_of way n) (Unit {0}) made) on.1)

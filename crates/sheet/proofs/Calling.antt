@@ -1,5 +1,5 @@
 -- Every sheet prints, line by line, what the calls that its lines ask for give. Assumes nothing.
-use Rattle.std.proofs.Common.{◌≡◌, ℕ, ◌+◌, ◌-◌, ◌<◌, ◌≤◌, Bool, true, false, eqb, ltb, ◌↔◌, List, [], ◌∷◌, length, is_some, Some, None, Option, sym, refl, ap, ◌∙◌, subst, mul-le-mul_left, arith}
+use Rattle.std.proofs.Common.{◌≡◌, ℕ, ◌+◌, ◌-◌, ◌<◌, ◌≤◌, Bool, true, false, eqb, ltb, ◌↔◌, List, [], ◌∷◌, length, is_some, Some, None, Ok, Option, sym, refl, ap, ◌∙◌, subst, mul-le-mul_left, arith}
 use Rattle.std.proofs.lemmas.Bool.{or_parts, ltb-false, eqb-false}
 use Rattle.bench.specs.Runs.{budget_denied}
 use Rattle.bench.proofs.Measuring.{budget_below}
@@ -11,10 +11,12 @@ use Rattle.jobs.proofs.Forming.{lines_are_exact}
 use Rattle.loggers.specs.Makings.{bad_rise, first_fall, placed, diagonal_denied, table_denied}
 use Rattle.loggers.specs.Meaning.{Sound, row_table}
 use Rattle.loggers.proofs.Falls.{first_fall_none}
+use Rattle.plans.specs.declared.ways.Way.{Way}
+use Rattle.plans.specs.declared.ways.Way.TheVariants.{EqualSpacing, WidestRectangle}
 use Rattle.plans.specs.Lawful.{widest_is_lawful}
-use Rattle.plans.specs.Widest.{widest_rectangle}
+use Rattle.plans.specs.Ways.{plan_of}
 use Rattle.tables.specs.Log.{Possible, fresh, low, high}
-use Rattle.tables.specs.Plan.{Plan, Lawful, equal_spacing}
+use Rattle.tables.specs.Plan.{Lawful}
 use Rattle.tables.specs.Table as tables
 use Rattle.tables.specs.Table.{Table}
 use Rattle.tables.proofs.Limits.{width_is_gaps, limits_are_sharp}
@@ -22,11 +24,10 @@ use Rattle.tables.proofs.Runs.{lawful_asks_all}
 use Rattle.tables.proofs.Spacing.{spacing_is_lawful}
 use Rattle.tables.proofs.Unknown.{span_of_log}
 use Rattle.words.specs.Writing.{line_bytes}
-use Rattle.sheet.specs.declared.replies.Reply.TheVariants.{Ran}
 use Rattle.sheet.specs.Laws.{RunLine, Leads, other_form, denied, sets_diagonal, sets_table, runs_spacing, runs_widest, LineByLine, over, next, SheetsAreCalls}
 use Rattle.sheet.specs.Leading.{stands, does, unless, leads}
-use Rattle.sheet.specs.Printing.{shown, printed}
-use Rattle.sheet.specs.Running.{ran_on, report_of}
+use Rattle.sheet.specs.Printing.{letter_of, shown, printed}
+use Rattle.sheet.specs.Running.{ran_on, figures_of}
 use Rattle.sheet.specs.Setting.{Setting}
 use Rattle.sheet.proofs.Outcomes.{ran_from_lem}
 
@@ -77,8 +78,9 @@ good_budget N n some e = go (bad_budget N n) refl e
     go false p h = budget_below N n some p
 
 -- a printed run is a run of the plan, with its sharp limits
-run_line : (letter : ℕ) (plan : Plan) → Lawful plan → (t : Table) (N n : ℕ) → Sound t N → budget_denied N n ≡ None → RunLine letter plan t N n (shown 0 (Ran (report_of letter plan t N n)))
-run_line letter plan lawful t N n sound fine =
+run_line : (way : Way) (t : Table) (N n : ℕ) → Lawful (plan_of way n) → Sound t N → budget_denied N n ≡ None → RunLine (letter_of way) (plan_of way n) t N n (shown 0 (Ok (Some (figures_of way t N n))))
+run_line way t N n lawful sound fine =
+    let plan = plan_of way n in
     let xs = (ran_on plan t N n).0 in
     let log = (ran_on plan t N n).1 in
     let run = ran_from_lem plan t n (fresh N (t 0) (t N)) in
@@ -92,7 +94,7 @@ run_line letter plan lawful t N n sound fine =
       all = all.count;
       limits = record { low_is = refl; high_is = refl; sharp = λ y. subst (λ k. ((low log ≤ y) × (y ≤ high log)) ↔ Possible k log y) (sym (span_of_log N log all.is_log)) (limits_are_sharp N log all.is_log y) };
       order = (width_is_gaps N log all.is_log).0;
-      printed = ap (λ k. line_bytes letter (N ∷ k ∷ low log ∷ high log ∷ (high log - low log) ∷ [])) all.count;
+      printed = ap (λ k. line_bytes (letter_of way) (N ∷ k ∷ low log ∷ high log ∷ (high log - low log) ∷ [])) all.count;
     }
 
 -- the logger that a job sets is one
@@ -112,13 +114,13 @@ still_sound s (Some job) sound = go (stands s job) refl
     go None e = does_sound s job e sound
 
 -- what an accepted job leads to
-accepted : (i : ℕ) (s : Setting) (line : List ℕ) (job : Job) → SoundSetting s → line ≡ asking job → stands s job ≡ None → Leads i s line (does s job).0 (shown i (does s job).1)
+accepted : (i : ℕ) (s : Setting) (line : List ℕ) (job : Job) → SoundSetting s → line ≡ asking job → stands s job ≡ None → Leads i s line (does s job).0 (shown i (Ok (does s job).1))
 accepted i s line (diagonal N c) sound is e = sets_diagonal N c is e
 accepted i s line (table vs) sound is e = sets_table vs is e
 accepted i None line (spacing n) sound is e = let z : ◌≡◌ {A = ℕ} 0 1 = cc in absurd (let w : ⊥ = omega arith in w)
-accepted i (Some l) line (spacing n) sound is e = runs_spacing l.0 l.1 n _ is refl e (run_line 101 (equal_spacing n) (spacing_is_lawful n) l.0 l.1 n sound e)
+accepted i (Some l) line (spacing n) sound is e = runs_spacing l.0 l.1 n _ is refl e (run_line EqualSpacing l.0 l.1 n (spacing_is_lawful n) sound e)
 accepted i None line (widest n) sound is e = let z : ◌≡◌ {A = ℕ} 0 1 = cc in absurd (let w : ⊥ = omega arith in w)
-accepted i (Some l) line (widest n) sound is e = runs_widest l.0 l.1 n _ is refl e (run_line 119 widest_rectangle widest_is_lawful l.0 l.1 n sound e)
+accepted i (Some l) line (widest n) sound is e = runs_widest l.0 l.1 n _ is refl e (run_line WidestRectangle l.0 l.1 n widest_is_lawful sound e)
 
 -- what a line leads to, by what it asks for
 lead_by : (i : ℕ) (s : Setting) (line : List ℕ) (o : Option Job) → job_of line ≡ o → SoundSetting s → Leads i s line (leads s o).0 (shown i (leads s o).1)

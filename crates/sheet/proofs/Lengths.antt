@@ -1,16 +1,18 @@
 -- What a line prints is at most 17 times as long as the line with its end. Assumes nothing.
-use Rattle.std.proofs.Common.{◌≡◌, ℕ, ◌+◌, ◌-◌, ◌*◌, ◌^◌, ◌<◌, ◌≤◌, List, [], ◌∷◌, length, Some, None, decimal, Option, sym, refl, ap, arith, length-append}
+use Rattle.std.proofs.Common.{◌≡◌, ℕ, ◌+◌, ◌-◌, ◌*◌, ◌^◌, ◌<◌, ◌≤◌, List, [], ◌∷◌, length, Some, None, Ok, Err, decimal, Option, Result, sym, ap, arith, length-append}
 use Rattle.std.proofs.lemmas.Fmt.{decimal_nonempty, length-decimal-le}
+use Rattle.denials.specs.declared.Denial.{Denial}
+use Rattle.denials.specs.declared.Denial.TheVariants.{Span, Ends, Budget, TicketOut, NotInner, Known, NoneLeft, NotThisTicket, OutOfOrder, Short, Window, Rise, Form, Falls, Readings, LineAwake}
+use Rattle.denials.specs.Told.{told}
 use Rattle.jobs.specs.Jobs.{Job, diagonal, table, spacing, widest, asking, Fits, job_of}
 use Rattle.jobs.proofs.Forming.{lines_are_exact}
 use Rattle.words.specs.Writing.{spaced, line_bytes}
 use Rattle.words.proofs.Lines.{length_line}
-use Rattle.sheet.specs.declared.replies.Reply.{Reply}
-use Rattle.sheet.specs.declared.replies.Reply.TheVariants.{Silent, Ran, Denied}
+use Rattle.sheet.specs.declared.reports.Report.{Report}
 use Rattle.sheet.specs.Leading.{leads}
-use Rattle.sheet.specs.Printing.{shown}
+use Rattle.sheet.specs.Printing.{letter_of, denial, shown}
+use Rattle.sheet.specs.Replying.{replied}
 use Rattle.sheet.specs.Setting.{Setting}
-use Rattle.sheet.specs.Sizes.{Small, Fitting}
 
 -- a space and a number of at least one digit, and others
 spaced_some : (n : ℕ) (ns : List ℕ) → n < 2 ^ 64 → 2 ≤ length (spaced (n ∷ ns))
@@ -28,7 +30,26 @@ asking_long (widest n) fits = omega (arith, spaced_some n [] (omega (arith, fits
 spaced-one : (n k : ℕ) (ns : List ℕ) → 0 < k → n < 10 ^ k → n < 2 ^ 64 → length (spaced (n ∷ ns)) ≤ 1 + k + length (spaced ns)
 spaced-one n k ns some h fits = omega (arith, length-append (decimal n) (spaced ns), length-decimal-le k n some h fits)
 
-denied_short : (i d : ℕ) → i < 10 ^ 4 → d < 10 ^ 2 → length (shown i (Denied d)) ≤ 10
+-- a denial's number has at most two digits
+told_small : (d : Denial) → (told d).0 < 10 ^ 2
+told_small Span = omega arith
+told_small Ends = omega arith
+told_small Budget = omega arith
+told_small TicketOut = omega arith
+told_small NotInner = omega arith
+told_small Known = omega arith
+told_small NoneLeft = omega arith
+told_small NotThisTicket = omega arith
+told_small OutOfOrder = omega arith
+told_small (Short n) = omega arith
+told_small Window = omega arith
+told_small Rise = omega arith
+told_small (Form n) = omega arith
+told_small (Falls n) = omega arith
+told_small Readings = omega arith
+told_small LineAwake = omega arith
+
+denied_short : (i d : ℕ) → i < 10 ^ 4 → d < 10 ^ 2 → length (denial i d) ≤ 10
 denied_short i d few small =
     omega (arith, length_line 63 (i ∷ d ∷ []), spaced-one i 4 (d ∷ []) (omega arith) few (omega arith), spaced-one d 2 [] (omega arith) small (omega arith))
 
@@ -44,22 +65,16 @@ ran_short c N k lo hi w s a l h v =
       spaced-one w 16 [] (omega arith) v (omega arith),
     )
 
--- no reply prints more than 65 bytes, and a denial 10
-reply_short : (i : ℕ) (r : Reply) → i < 10 ^ 4 → Small r → length (shown i r) ≤ 65
-reply_short i Silent few small = omega arith
-reply_short i (Ran r) few small = ran_short r.letter r.span r.asked r.low r.high (r.high - r.low) small.0 small.1 (omega arith) small.3 (omega arith)
-reply_short i (Denied d) few small = omega (arith, denied_short i d few small)
+-- no reply prints more than 65 bytes
+reply_short : (i : ℕ) (r : Result (Option Report) Denial) → i < 10 ^ 4 → length (shown i (replied r)) ≤ 65
+reply_short i (Ok None) few = omega arith
+reply_short i (Ok (Some r)) few =
+    ran_short (letter_of r.way) r.span r.asked r.low r.high (r.high - r.low) r.short_span r.few (omega (arith, r.in_order, r.short_limits)) r.short_limits (omega (arith, r.short_limits))
+reply_short i (Err d) few = omega (arith, denied_short i (told d).0 few (told_small d))
 
-pub shown_short : (i : ℕ) (s : Setting) (line : List ℕ) → i < 10 ^ 4 → Small (leads s (job_of line)).1 → length (shown i (leads s (job_of line)).1) ≤ 17 * (length line + 1)
-shown_short i s line few small = go (job_of line) refl small
-  where
-    go : (o : Option Job) → job_of line ≡ o → Small (leads s o).1 → length (shown i (leads s o).1) ≤ 17 * (length line + 1)
-    go None e h = omega (arith, denied_short i 13 few h)
-    go (Some job) e h =
-        let exact = (lines_are_exact line job).0 e in
-        omega (arith, reply_short i (leads s (Some job)).1 few h, ap length exact.0, asking_long job exact.1)
-
--- what a line asks for fits a sheet
-pub fitting : (line : List ℕ) (o : Option Job) → o ≡ job_of line → Fitting o
-fitting line None e = tt
-fitting line (Some job) e = ((lines_are_exact line job).0 (sym e)).1
+-- and a line of another form, a denial
+pub shown_short : (i : ℕ) (s : Setting) (line : List ℕ) (o : Option Job) (r : Result (Option Report) Denial) (written : ℕ) → i < 10 ^ 4 → o ≡ job_of line → replied r ≡ (leads s o).1 → written ≡ length (shown i (replied r)) → written ≤ 17 * (length line + 1)
+shown_short i s line None r written few e is counts = omega (arith, counts, denied_short i 13 few (omega arith), ap (λ q. length (shown i q)) is)
+shown_short i s line (Some job) r written few e is counts =
+    let exact = (lines_are_exact line job).0 (sym e) in
+    omega (arith, counts, reply_short i r few, ap length exact.0, asking_long job exact.1)

@@ -4,4 +4,3 @@ pub mod Setting
 pub mod Leading
 pub mod Printing
 pub mod Laws
-pub mod Sizes

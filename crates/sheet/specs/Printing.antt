@@ -1,23 +1,29 @@
 -- What a sheet prints. Assumes nothing.
-use Rattle.std.specs.Prelude.{ℕ, ◌+◌, ◌-◌, List, [], ◌∷◌, ◌++◌, None, Option, nat_lt}
+use Rattle.std.specs.Prelude.{ℕ, ◌+◌, ◌-◌, List, [], ◌∷◌, ◌++◌, Some, None, Ok, Err, Option, nat_lt}
 use Rattle.denials.specs.Checks.{first}
 use Rattle.jobs.specs.Jobs.{job_of}
 use Rattle.jobs.specs.Lines.{lines_of}
+use Rattle.plans.specs.declared.ways.Way.{Way}
+use Rattle.plans.specs.declared.ways.Way.TheVariants.{EqualSpacing, WidestRectangle}
 use Rattle.words.specs.Writing.{line_bytes}
-use Rattle.sheet.specs.declared.replies.Reply.{Reply}
-use Rattle.sheet.specs.declared.replies.Reply.TheVariants.{Silent, Ran, Denied}
 use Rattle.sheet.specs.Leading.{leads}
+use Rattle.sheet.specs.Replying.{Reply}
 use Rattle.sheet.specs.Setting.{Setting}
 
 -- a denied line: `?` (byte 63), the line's number and the denial's
 abbrev pub denial : ℕ → ℕ → List ℕ
 denial i d = line_bytes 63 (i ∷ d ∷ [])
 
+-- the letter of a plan's lines: e or w
+abbrev pub letter_of : Way → ℕ
+letter_of EqualSpacing = 101
+letter_of WidestRectangle = 119
+
 -- what the reply to line i prints: nothing; letter, span, number asked, low, high and width; or the denial
 abbrev pub shown : ℕ → Reply → List ℕ
-shown i Silent = []
-shown i (Ran r) = line_bytes r.letter (r.span ∷ r.asked ∷ r.low ∷ r.high ∷ (r.high - r.low) ∷ [])
-shown i (Denied d) = denial i d
+shown i (Ok None) = []
+shown i (Ok (Some r)) = line_bytes (letter_of r.way) (r.span ∷ r.asked ∷ r.low ∷ r.high ∷ (r.high - r.low) ∷ [])
+shown i (Err d) = denial i d
 
 -- what lines print, of which the first is line i and where this logger is set
 abbrev pub printed : ℕ → Setting → List (List ℕ) → List ℕ

@@ -1,10 +1,12 @@
--- A run as a function of the plan, the table and the log before it. Assumes nothing.
+-- A run as a function of the plan, the table and the log before it, and what is reported of it. Assumes nothing.
 use Rattle.std.specs.Prelude.{ℕ, zero, suc, List, [], ◌∷◌, length, Some, None}
+use Rattle.plans.specs.declared.ways.Way.{Way}
+use Rattle.plans.specs.Ways.{plan_of}
 use Rattle.tables.specs.declared.points.Point.{Point}
 use Rattle.tables.specs.Log.{insert, fresh, low, high}
 use Rattle.tables.specs.Plan.{Plan}
 use Rattle.tables.specs.Table.{Table}
-use Rattle.sheet.specs.declared.replies.Report.{Report}
+use Rattle.sheet.specs.declared.reports.Report.{Report}
 
 -- one question before others, and the log that they leave
 abbrev pub asked_first : ℕ → List ℕ × List Point → List ℕ × List Point
@@ -20,7 +22,19 @@ ran_from plan t (suc n) log =
 abbrev pub ran_on : Plan → Table → ℕ → ℕ → List ℕ × List Point
 ran_on plan t N n = ran_from plan t n (fresh N (t 0) (t N))
 
--- what is reported of such a run under a letter
-abbrev pub report_of : ℕ → Plan → Table → ℕ → ℕ → Report
-report_of letter plan t N n =
-    record { letter = letter; span = N; asked = length (ran_on plan t N n).0; low = low (ran_on plan t N n).1; high = high (ran_on plan t N n).1 }
+-- the figures of a run: whose plan was run, the span, the number of questions asked, and the limits
+pub record Figures : Type 0 where
+  pub way : Way
+  pub span : ℕ
+  pub asked : ℕ
+  pub low : ℕ
+  pub high : ℕ
+
+-- the figures of a report
+abbrev pub figures : Report → Figures
+figures r = record { way = r.way; span = r.span; asked = r.asked; low = r.low; high = r.high }
+
+-- the figures of the run of a plan, made for n questions, with n questions on a table of span N
+abbrev pub figures_of : Way → Table → ℕ → ℕ → Figures
+figures_of way t N n =
+    record { way = way; span = N; asked = length (ran_on (plan_of way n) t N n).0; low = low (ran_on (plan_of way n) t N n).1; high = high (ran_on (plan_of way n) t N n).1 }

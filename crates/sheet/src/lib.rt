@@ -1,10 +1,9 @@
 // The job sheet: lines that set loggers and run plans on them, and what they print.
 #![tactic(auto)]
 
-mod chosen;
+mod entering;
 mod printing;
-mod replies;
-mod rows;
+mod reports;
 mod running;
 mod sheets;
 

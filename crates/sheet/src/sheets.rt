@@ -3,27 +3,27 @@ ghost use Rattle.std.specs.Prelude.{◌≡◌, ◌≤◌, ◌++◌, length, drop
 ghost use Rattle.denials.specs.Checks.{Decided};
 ghost use Rattle.denials.specs.Told.{told};
 ghost use Rattle.words.specs.Numbers.{ReadsBack};
-ghost use Rattle.words.specs.Writing.{overwritten};
+ghost use Rattle.words.specs.Writing.{begun};
 ghost use Rattle.sheet.specs.Laws.{SheetsAreCalls};
 ghost use Rattle.sheet.specs.Printing.{sheet_prints, sheet_denied};
 
-use super::chosen::Chosen;
+use super::entering::enter;
 use super::printing::print_reply;
 use denials::Denial;
-use jobs::{job_at, line_end};
+use jobs::job_at;
+use words::Cursor;
 
 // Does what the lines of a sheet ask for, one after the other, and writes what they print into the first places
 // of a row; gives the number of bytes written. The rest of the row is kept.
+#[tactic(auto, using(crate::proofs::Calling::sheets_are_calls))]
 pub fn run_sheet(sheet: &[u8], out: &mut [u8]) -> Result<usize, Denial>
     ensures decided { Decided told (sheet_denied (length sheet.now) (length out.old)) result (λ n. (n ≡ length (sheet_prints sheet.now)) × (out.new ≡ sheet_prints sheet.now ++ drop n out.old)) (out.new ≡ out.old) }
     ensures within { IfOk result (λ n. n ≤ length out.new) }
     ensures calls { SheetsAreCalls }
     ensures back { ReadsBack }
 {
-    match check_room(sheet.len(), out.len()) {
-        Ok(()) => Ok(print_lines(sheet, out)),
-        Err(denial) => Err(denial),
-    }
+    check_room(sheet.len(), out.len())?;
+    Ok(print_lines(sheet, out))
 }
 
 // Denied where a sheet has too many bytes, or a row too few places to print into.
@@ -45,17 +45,14 @@ fn print_lines(sheet: &[u8], out: &mut [u8]) -> usize
     requires room { 36864 ≤ length out.old }
     ensures end { result ≡ length (sheet_prints sheet.now) }
     ensures within { result ≤ length out.new }
-    ensures row { out.new ≡ overwritten 0 (sheet_prints sheet.now) out.old }
+    ensures row { out.new ≡ begun (sheet_prints sheet.now) out.old }
 {
-    let mut chosen = Chosen::Nothing;
-    let mut number = 0;
-    let mut at = 0;
+    let mut set = None;
     let mut written = 0;
-    while at < sheet.len() {
-        number += 1;
-        let reply = chosen.enter(job_at(sheet, at));
-        written = print_reply(reply, number, out, written);
-        at = line_end(sheet, at) + 1;
+    for (index, line) in sheet.split_inclusive(|byte| *byte == b'\n').enumerate() {
+        let number = index as u64 + 1;
+        let reply = enter(&mut set, job_at(Cursor { sheet: line, at: 0 }), number);
+        written += print_reply(reply, number, &mut out[written..]);
     }
     written
 }

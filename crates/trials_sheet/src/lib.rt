@@ -14,10 +14,10 @@ pub fn prints(sheet: &[u8], expected: &[u8]) -> bool
     ensures { result ≡ true → sheet_prints sheet.now ≡ expected.now }
 {
     let mut out = DOTS;
-    match run_sheet(sheet, &mut out) {
-        Ok(n) => &out[..n] == expected && &out[n..] == &DOTS[n..],
-        Err(_) => false,
-    }
+    let Ok(n) = run_sheet(sheet, &mut out) else {
+        return false;
+    };
+    &out[..n] == expected && &out[n..] == &DOTS[n..]
 }
 
 #[cfg(test)]

@@ -1,8 +1,16 @@
-use Rattle.readout.specs.Views.{view}
-use Rattle.sheet.proofs.Bounds.{answer}
+use Rattle.std.proofs.Common.{arith}
+use Rattle.bench.specs.Runs.{budget_denied}
+use Rattle.denials.specs.Told.{told}
+use Rattle.denials.proofs.Passing.{accepted}
+use Rattle.sheet.proofs.Bounds.{figures_small, figures_are}
 use Rattle.sheet.proofs.running.run_plan.Goals as goal
 
-pub returns-in-Ok : goal.returns-in-Ok
-returns-in-Ok g c =
-    let a = answer c.args.letter (g.P.Plan.asks c.args.plan) (g.P.Plan.lawful c.args.plan) (g.L.Logger.table c.args.logger.now) (g.L.Logger.extent c.args.logger.now) c.args.questions 0 (g.L.Logger.sound c.args.logger.now) c.requires (view c.run.new.place) c.in-Ok.ran _ c.asleep-line.ensures _ c.in-Ok.ensures.decided c.span.result c.span.ensures in
-    record { is = a.is; small = a.small }
+pub invariant_of-result : goal.invariant_of-result
+invariant_of-result g c =
+    let small = figures_small c.args.way c.in_ok-plan.plan (g.L.Logger.table c.args.logger.now) (g.L.Logger.extent c.args.logger.now) c.args.questions (c.in_ok-ran.ran, c.in_ok-ran.field-0-1) (g.L.Logger.sound c.args.logger.now) (omega arith) c.in_ok-plan.ensures c.in_ok-ran.ensures.decided in
+    record { short_span = omega arith; few = omega arith; in_order = omega arith; short_limits = omega arith }
+
+pub returns : goal.returns
+returns g c =
+    accepted told (budget_denied (g.L.Logger.extent c.args.logger.now) c.args.questions) (c.in_ok-ran.ran, c.in_ok-ran.field-0-1) _ _ _ _ _ c.in_ok-ran.ensures.decided
+    (figures_are c.args.way c.in_ok-plan.plan (g.L.Logger.table c.args.logger.now) (g.L.Logger.extent c.args.logger.now) c.args.questions (c.in_ok-ran.ran, c.in_ok-ran.field-0-1) (g.L.Logger.sound c.args.logger.now) (omega arith) c.in_ok-plan.ensures c.in_ok-ran.ensures.decided c.span.result c.span.ensures)

@@ -1,26 +1,32 @@
-use Rattle.std.proofs.Common.{◌+◌, length, drop, ap, arith, length-append, length-drop}
-use Rattle.sheet.specs.Printing.{sheet_prints}
+use Rattle.std.proofs.Common.{◌≡◌, ◌+◌, eqb, refl, rules, arith}
+use Rattle.std.proofs.lemmas.List.Sorted.{answers_always}
+use Rattle.std.specs.Iterator.Adapters.{enumerate_source, enumerate_count}
+use Rattle.std.specs.Slice.Iter.{split_inclusive_rest}
 use Rattle.jobs.specs.Lines.{line_of}
 use Rattle.jobs.specs.Said.{said}
 use Rattle.sheet.specs.Setting.{held}
-use Rattle.sheet.proofs.Lengths.{fitting}
-use Rattle.sheet.proofs.Stepping.{stepped, line_within, ended}
+use Rattle.sheet.proofs.Cutting.{piece_is_line}
+use Rattle.sheet.proofs.Stepping.{grown, printed_from, moved}
+use Rattle.sheet.proofs.Lengths.{shown_short}
 use Rattle.sheet.proofs.sheets.print_lines.Goals as goal
 
-pub enter-reply-requires : goal.enter-reply-requires
-enter-reply-requires c = fitting (line_of (drop c.loop-at.at c.args.sheet.now)) (said c.job_at.result) c.job_at.ensures
-
-pub overflow_add-at : goal.overflow_add-at
-overflow_add-at c = omega (arith, c.line_end-at.ensures, line_within (drop c.loop-at.at c.args.sheet.now), length-drop c.loop-at.at c.args.sheet.now, c.loop-at-test.true, c.requires.short)
-
-pub loop-at-preserved : goal.loop-at-preserved
-loop-at-preserved c =
-    stepped c.args.sheet.now c.loop-at.out c.loop-at.at c.line_end-at.result c.loop-at.number (held c.loop-at.chosen) (held c.enter-reply.new.self) (said c.job_at.result) c.enter-reply.result
-    c.loop-at-test.true c.job_at.ensures c.line_end-at.ensures c.enter-reply.ensures.held c.enter-reply.ensures.reply
-    c.print_reply-written.new.out _ c.loop-at.written c.print_reply-written.result _ (omega arith) c.enter-reply.ensures.small c.print_reply-written.ensures.end c.print_reply-written.ensures.row
-    c.loop-at.invariant
-
-pub returns : goal.returns
-returns c =
-    let e = ended c.args.sheet.now c.loop-at.out _ c.loop-at.at c.loop-at.number c.loop-at.written _ (held c.loop-at.chosen) c.loop-at-test.false c.loop-at.invariant.0 c.loop-at.invariant.1 in
-    record { end = e.0; within = omega (arith, e.0, ap length e.1, length-append (sheet_prints c.args.sheet.now) (drop (0 + length (sheet_prints c.args.sheet.now)) c.args.out.now)); row = e.1 }
+pub loop-index-preserved : goal.loop-index-preserved
+loop-index-preserved c =
+    let s = c.in-Some.ensures.steps in
+    let count : enumerate_count c.next.new.self ≡ enumerate_count c.loop-index.index-iterator + 1 = s.2 in
+    let cut = piece_is_line (split_inclusive_rest (enumerate_source c.loop-index.index-iterator)) c.in-Some.line.now (split_inclusive_rest (enumerate_source c.next.new.self)) s.0.1.0 s.0.0 s.0.1.1 (s.0.1.2 (λ y. eqb y 10) (answers_always _ _ _ (λ f a r q k. search rules))).1 s.0.2 in
+    let grow = grown c.args.out.now c.loop-index.out c.print_reply-written.new.out _ c.loop-index.written _ _ c.loop-index.invariant.row c.loop-index.invariant.within (omega arith) refl c.print_reply-written.ensures.end c.print_reply-written.ensures.row in
+    record {
+      can = search rules;
+      ends = tt;
+      within = grow.within;
+      row = grow.row;
+      prints =
+          moved _ _ _ _ _ _ grow.front
+          (printed_from _ _ _ (enumerate_count c.loop-index.index-iterator + 1) _ (enumerate_count c.next.new.self + 1) (held c.loop-index.set) (held c.enter-reply.new.set) (said c.job_at.result) c.enter-reply.result cut (omega (arith, s.1)) (omega arith) c.job_at.ensures c.enter-reply.ensures.held c.enter-reply.ensures.reply)
+          c.loop-index.invariant.prints;
+      room = λ more.
+          let short = shown_short _ (held c.loop-index.set) (line_of c.in-Some.line.now) (said c.job_at.result) c.enter-reply.result _ (omega (arith, s.1, cut.some, cut.parts)) c.job_at.ensures c.enter-reply.ensures.reply c.print_reply-written.ensures.end in
+          omega (arith, cut.ends more, cut.parts, c.loop-index.invariant.room s.0.2, short);
+      few = omega (arith, cut.some, cut.parts, count);
+    }
