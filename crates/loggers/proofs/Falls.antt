@@ -1,44 +1,54 @@
 -- The first fall of a row: how a scan finds it, and what it says of the row. Assumes nothing.
-use Rattle.std.proofs.Common.{◌≡◌, ℕ, zero, suc, ◌+◌, ◌<◌, ◌≤◌, Bool, true, false, cond, ◌||◌, ltb, ◌↔◌, List, [], ◌∷◌, length, get_or, drop, is_some, Some, None, Option, sym, refl, ap, ◌∙◌, ⊎_elim, arith}
-use Rattle.std.proofs.lemmas.List.{drop_more, drop_all}
-use Rattle.std.proofs.lemmas.Bool.{cases_lt, lt-ltb, le-ltb, true≢false}
+use Rattle.std.proofs.Common.{◌≡◌, ℕ, zero, suc, ◌+◌, ◌<◌, ◌≤◌, Bool, true, false, cond, ◌||◌, ltb, ◌↔◌, List, [], ◌∷◌, length, fold, is_some, Some, None, Option, sym, refl, ap, ◌∙◌, ⊎_elim, arith}
+use Rattle.std.specs.List.{position, position_from}
+use Rattle.std.specs.Option.{option_map}
+use Rattle.std.proofs.lemmas.Iterator.Adapters.{position_from-zero}
+use Rattle.std.proofs.lemmas.Bool.{cases_lt, lt-ltb, le-ltb, cond_both, cond-true, cond-false}
 use Rattle.loggers.specs.Meaning.{row_table, RowNeverFalls}
 use Rattle.loggers.specs.Makings.{fall_from, first_fall}
+use Rattle.loggers.proofs.Pairs.{pairs}
 
--- the scan has found a fall at i
-pub fall_here : (vs : List ℕ) (i v : ℕ) → i < length vs → get_or vs i 0 < v → fall_from i v (drop i vs) ≡ Some i
-fall_here vs i v h lt = rw (drop_more vs i 0 h, lt-ltb (get_or vs i 0) v lt) refl
+-- whether the second of two values is lower
+abbrev pub falls_at : ℕ × ℕ → Bool
+falls_at p = ltb p.1 p.0
 
--- the scan goes on where there is no fall at i
-pub fall_on : (vs : List ℕ) (i v : ℕ) → i < length vs → v ≤ get_or vs i 0 → fall_from i v (drop i vs) ≡ fall_from (i + 1) (get_or vs i 0) (drop (i + 1) vs)
-fall_on vs i v h le = rw (drop_more vs i 0 h, le-ltb (get_or vs i 0) v le) refl
-
--- the scan has come to the end of the row
-pub fall_over : (vs : List ℕ) (i v : ℕ) → length vs ≤ i → fall_from i v (drop i vs) ≡ None
-fall_over vs i v h = rw (drop_all i vs h) refl
+-- whether a fall was found, or the next two values are one
+abbrev pub found_fall : Bool → ℕ × ℕ → Bool
+found_fall f p = f || falls_at p
 
 -- a fall here or one later on is a fall from here on
-either : (f b : Bool) (i : ℕ) (o : Option ℕ) → (f || is_some (cond b (Some i) o)) ≡ ((f || b) || is_some o)
+either : (f b : Bool) (i : ℕ) (o : Option ℕ) → ((f || b) || is_some o) ≡ (f || is_some (cond b (Some i) o))
 either true b i o = refl
 either false true i o = refl
 either false false i o = refl
 
--- one place more is looked at, where f says whether a fall was found before it
-pub falls_on : (vs : List ℕ) (i v : ℕ) (f whole : Bool) → i < length vs → (f || is_some (fall_from i v (drop i vs))) ≡ whole → ((f || ltb (get_or vs i 0) v) || is_some (fall_from (i + 1) (get_or vs i 0) (drop (i + 1) vs))) ≡ whole
-falls_on vs i v f whole h is =
-    sym (either f (ltb (get_or vs i 0) v) i (fall_from (i + 1) (get_or vs i 0) (drop (i + 1) vs)))
-    ∙ ap (λ l. f || is_some (fall_from i v l)) (sym (drop_more vs i 0 h))
-    ∙ is
+-- of values after v
+fold_from : (f : Bool) (k v : ℕ) (vs : List ℕ) → fold found_fall f (pairs (v ∷ vs)) ≡ (f || is_some (fall_from k v vs))
+fold_from true k v [] = refl
+fold_from false k v [] = refl
+fold_from f k v (w ∷ ws) = fold_from (f || ltb w v) (k + 1) w ws ∙ either f (ltb w v) k (fall_from (k + 1) w ws)
 
--- no place is left to look at
-pub falls_over : (vs : List ℕ) (i v : ℕ) (f whole : Bool) → length vs ≤ i → (f || is_some (fall_from i v (drop i vs))) ≡ whole → f ≡ whole
-falls_over vs i v true whole h is = is
-falls_over vs i v false whole h is = ap is_some (sym (fall_over vs i v h)) ∙ is
+-- a fold over all neighbours tells whether there is a fall
+pub fold_falls : (vs : List ℕ) → fold found_fall false (pairs vs) ≡ is_some (first_fall vs)
+fold_falls [] = refl
+fold_falls (v ∷ vs) = fold_from false 1 v vs
+
+-- the position of the first fall among the neighbours is one less than its place
+place_from : (k v : ℕ) (vs : List ℕ) → option_map (λ i. i + 1) (position_from falls_at k (pairs (v ∷ vs))) ≡ fall_from (k + 1) v vs
+place_from k v [] = refl
+place_from k v (w ∷ ws) =
+    cond_both (ltb w v) (Some k) (position_from falls_at (k + 1) (pairs (w ∷ ws))) (λ o. option_map (λ i. i + 1) o ≡ cond (ltb w v) (Some (k + 1)) (fall_from (k + 1 + 1) w ws))
+    (λ e. sym (cond-true _ _ _ e))
+    (λ e. place_from (k + 1) w ws ∙ sym (cond-false _ _ _ e))
+
+pub position_falls : (vs : List ℕ) → option_map (λ i. i + 1) (position falls_at (pairs vs)) ≡ first_fall vs
+position_falls [] = refl
+position_falls (v ∷ vs) = ap (option_map (λ i. i + 1)) (position_from-zero falls_at (pairs (v ∷ vs))) ∙ place_from 0 v vs
 
 -- what is not some is none
 pub not_some : (o : Option ℕ) → false ≡ is_some o → None ≡ o
 not_some None e = refl
-not_some (Some i) e = absurd (true≢false (sym e))
+not_some (Some i) e = absurd (cc)
 
 -- before a row that never falls may stand a value that is above none of it
 never_falls_more : (v : ℕ) (vs : List ℕ) → ((j : ℕ) → j < length vs → v ≤ row_table vs j) → RowNeverFalls vs → RowNeverFalls (v ∷ vs)

@@ -4,4 +4,4 @@ use Rattle.loggers.specs.declared.table_logger.TableLogger.{TableLogger}
 
 -- the row of values that a table logger holds
 abbrev pub row_of : TableLogger → List ℕ
-row_of l = l.values.now
+row_of l = l.table.values.now

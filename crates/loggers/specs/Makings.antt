@@ -3,6 +3,10 @@ use Rattle.std.specs.Prelude.{ℕ, ◌+◌, ◌-◌, ◌*◌, Bool, cond, ◌||�
 use Rattle.denials.specs.Bounds.{bad_span}
 use Rattle.denials.specs.Checks.{first}
 
+-- what stands in the way of a logger of span n
+abbrev pub span_denied : ℕ → Option (ℕ × List ℕ)
+span_denied n = first ((bad_span n, (1, [])) ∷ [])
+
 -- no diagonal of span n has this rise: it is 0, or the last value would pass 4,294,967,295
 abbrev pub bad_rise : ℕ → ℕ → Bool
 bad_rise n c = c == 0 || nat_lt 4294967295 (c * n)

@@ -5,16 +5,14 @@ ghost use Rattle.denials.specs.Told.{told};
 ghost use Rattle.loggers.specs.Makings.{first_fall, table_denied};
 ghost use Rattle.loggers.specs.Meaning.{RowNeverFalls};
 
-use crate::spans::bad_span;
+use crate::spans::check_span;
 use denials::Denial;
 
 // Whether a table may have these values.
 pub(crate) fn accept(values: &[u32]) -> Result<(), Denial>
     ensures { Decided told (table_denied values.now) result (λ _. (2 ≤ length values.now) × (length values.now ≤ 1000001) × RowNeverFalls values.now) (Unit {0}) }
 {
-    if bad_span(values.len().saturating_sub(1)) {
-        return Err(Denial::Span);
-    }
+    check_span(values.len().saturating_sub(1))?;
     if let Some(place) = first_fall(values) {
         return Err(Denial::Falls(place));
     }
@@ -29,21 +27,18 @@ fn first_fall(values: &[u32]) -> Option<u64>
     if !falls(values) {
         return None;
     }
-    for i in 1..values.len() {
-        if values[i] < values[i - 1] {
-            return Some(i as u64);
-        }
-    }
-    None
+    values
+        .array_windows::<2>()
+        .position(|[before, now]| now < before)
+        .map(|place| place as u64 + 1)
 }
 
-// Whether a value is lower than the one before. Goes through the whole row, so that a processor takes several values at once.
+// Whether a value is lower than the one before. Goes through the whole row, so that a processor takes several values at once;
+// `any` and `is_sorted`, which leave at the first fall, take three times as long on a row that has none.
 fn falls(values: &[u32]) -> bool
     ensures { result ≡ is_some (first_fall values.now) }
 {
-    let mut found = false;
-    for i in 1..values.len() {
-        found |= values[i] < values[i - 1];
-    }
-    found
+    values
+        .array_windows::<2>()
+        .fold(false, |found, [before, now]| found | (now < before))
 }

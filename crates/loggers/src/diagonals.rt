@@ -7,7 +7,7 @@ ghost use Rattle.denials.specs.Checks.{Decided};
 ghost use Rattle.loggers.specs.Makings.{diagonal_denied};
 
 use crate::asking::Logger;
-use crate::spans::bad_span;
+use crate::spans::check_span;
 use denials::Denial;
 
 #[derive(Clone, Copy)]
@@ -25,9 +25,7 @@ impl Diagonal {
     pub fn new(span: u32, rise: u32) -> Result<Diagonal, Denial>
         ensures { Decided told (diagonal_denied span rise) result (λ d. (d.span ≡ span) × (d.rise ≡ rise)) (Unit {0}) }
     {
-        if bad_span(span as usize) {
-            return Err(Denial::Span);
-        }
+        check_span(span as usize)?;
         if rise == 0 || rise as u64 * span as u64 > u32::MAX as u64 {
             return Err(Denial::Rise);
         }
@@ -62,10 +60,6 @@ impl Logger for Diagonal {
     }
 
     fn count(&self, x: u32) -> Option<u32> {
-        if x <= self.span {
-            Some(self.rise * x)
-        } else {
-            None
-        }
+        (x <= self.span).then(|| self.rise * x)
     }
 }

@@ -9,7 +9,7 @@ mod keeping;
 // A table logger that keeps its row of values.
 #[derive(Drop)]
 pub struct KeptTable<V: AsSlice<u32>> {
-    values: V,
+    pub(crate) values: V,
     ghost long: { 2 ≤ length (V.items values) },
     ghost short: { length (V.items values) ≤ 1000001 },
     ghost rising: { RowNeverFalls (V.items values) },

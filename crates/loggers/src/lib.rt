@@ -13,6 +13,7 @@ pub use asking::Logger;
 pub use chosen::Chosen;
 pub use diagonals::Diagonal;
 pub use kept_table::KeptTable;
+pub use spans::check_span;
 pub use table_logger::TableLogger;
 
 #[cfg(test)]

@@ -1,9 +1,10 @@
-use Rattle.std.proofs.Common.{add-sub_cancel}
-use Rattle.loggers.proofs.Falls.{falls_on, falls_over}
+use Rattle.std.proofs.Common.{rules, ◌∙◌}
+use Rattle.std.proofs.lemmas.Iterator.Consumers.{fold_from_yields_List}
+use Rattle.loggers.proofs.Falls.{fold_falls, found_fall}
+use Rattle.loggers.proofs.Pairs.{windows_pair}
 use Rattle.loggers.proofs.accepting.falls.Goals as goal
 
-pub loop-i-preserved : goal.loop-i-preserved
-loop-i-preserved c = rw add-sub_cancel (falls_on _ _ _ _ _ c.loop-i-test.true c.loop-i.invariant)
-
 pub returns : goal.returns
-returns c = falls_over _ _ _ _ _ c.loop-i-test.false c.loop-i.invariant
+returns c =
+    let vs = c.args.values.now in
+    fold_from_yields_List _ found_fall _ _ c.fold.ensures.ran (windows_pair vs (cc) (cc)) (λ a x b q k. search rules) ∙ fold_falls vs

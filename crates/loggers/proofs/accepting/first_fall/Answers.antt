@@ -1,6 +1,10 @@
-use Rattle.std.proofs.Common.{◌≡◌, Some, None, sym, ◌∙◌, add-sub_cancel}
+use Rattle.std.proofs.Common.{◌≡◌, ◌+◌, None, rules, ap, ◌∙◌}
+use Rattle.std.specs.List.{position}
+use Rattle.std.specs.Option.{option_map}
+use Rattle.std.proofs.lemmas.Iterator.Search.{position_from_yields_List}
 use Rattle.loggers.specs.Makings.{first_fall}
-use Rattle.loggers.proofs.Falls.{fall_here, fall_on, fall_over, not_some, told_none}
+use Rattle.loggers.proofs.Falls.{falls_at, position_falls, not_some, told_none}
+use Rattle.loggers.proofs.Pairs.{pairs, windows_pair}
 use Rattle.loggers.proofs.accepting.first_fall.Goals as goal
 
 pub returns-then-not-falls : goal.returns-then-not-falls
@@ -8,17 +12,11 @@ returns-then-not-falls c =
     let none : None ≡ first_fall c.args.values.now = not_some (first_fall c.args.values.now) c.if-not-falls.ensures in
     record { place = none; never = told_none _ _ none }
 
-pub returns-then-values-i : goal.returns-then-values-i
-returns-then-values-i c =
-    let found : Some c.loop-i.i ≡ first_fall c.args.values.now =
-    sym (fall_here _ _ _ c.loop-i-test.true c.if-values-i.true) ∙ c.loop-i.invariant in
-    record { place = found; never = told_none _ _ found }
-
-pub loop-i-preserved : goal.loop-i-preserved
-loop-i-preserved c = rw add-sub_cancel (sym (fall_on _ _ _ c.loop-i-test.true c.if-values-i.false) ∙ c.loop-i.invariant)
-
 pub returns : goal.returns
 returns c =
-    let none : None ≡ first_fall c.args.values.now =
-    sym (fall_over _ _ _ c.loop-i-test.false) ∙ c.loop-i.invariant in
-    record { place = none; never = told_none _ _ none }
+    let vs = c.args.values.now in
+    let at : c.position.result ≡ position falls_at (pairs vs) =
+    position_from_yields_List falls_at _ _ _ c.position.ensures.ran (windows_pair vs (cc) (cc)) (λ x b q k. search rules) in
+    let next : c.map.result ≡ option_map (λ i. i + 1) c.position.result = search rules in
+    let found : c.map.result ≡ first_fall vs = next ∙ ap (option_map (λ i. i + 1)) at ∙ position_falls vs in
+    record { place = found; never = told_none _ _ found }
