@@ -3,7 +3,9 @@ use Rattle.std.proofs.Common.{◌≡◌, ℕ, ◌<◌, true, ◌&&◌, eqb, ltb,
 use Rattle.std.proofs.lemmas.Bool.{and_parts, and_from, false≢true, ltb-true, leb-true, eqb-true, lt-ltb, le-leb, eq-eqb}
 use Rattle.tables.specs.declared.points.Point.{Point}
 use Rattle.tables.specs.Log.{Rising, IsLog, span_of}
+use Rattle.logs.specs.declared.logs.Log.{Log}
 use Rattle.logs.specs.Held.{rises, is_log}
+use Rattle.logs.specs.Points.{points}
 
 rising : (p : Point) (ps : List Point) → rises p ps ≡ true → Rising p ps
 rising p [] e = tt
@@ -34,3 +36,7 @@ log_passes n (p ∷ ps) e = and_from (eqb p.at 0) (rises p ps) (eq-eqb p.at 0 e.
 pub log_some : (log : List Point) → is_log log ≡ true → 0 < length log
 log_some [] e = absurd (false≢true e)
 log_some (p ∷ ps) e = omega arith
+
+-- as the type says of every log
+pub points_are_log : (log : Log) → IsLog (span_of (points log)) (points log)
+points_are_log log = is_log_lem (points log) log.sound

@@ -6,9 +6,9 @@ ghost use Rattle.tables.specs.Least.{least_width};
 pub fn least_width(span: u32, answers: u32) -> u64
     ensures { result ≡ least_width span answers }
 {
-    let gaps = answers as u64 + 1;
-    let shorter = span as u64 / gaps;
-    let longer_gaps = span as u64 % gaps;
+    let gaps = u64::from(answers) + 1;
+    let shorter = u64::from(span) / gaps;
+    let longer_gaps = u64::from(span) % gaps;
     // a gap of length l adds l * (l - 1): each gap is `shorter` long, or longer by one
     longer_gaps * ((shorter + 1) * shorter)
         + (gaps - longer_gaps) * (shorter * shorter.saturating_sub(1))

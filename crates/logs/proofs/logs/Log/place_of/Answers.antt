@@ -5,13 +5,13 @@ use Rattle.tables.specs.declared.points.Point.{Point}
 use Rattle.logs.specs.Fits.{place, Beside}
 use Rattle.logs.specs.Points.{points}
 use Rattle.logs.proofs.Gaps.{at_up, place_by, beside}
-use Rattle.logs.proofs.Sound.{is_log_lem}
+use Rattle.logs.proofs.Sound.{points_are_log}
 use Rattle.logs.proofs.logs.Log.place_of.Goals as goal
 
 pub returns : goal.returns
 returns c =
     let log = points c.args.self.now in
-    let is = is_log_lem log c.args.self.now.sound in
+    let is = points_are_log c.args.self.now in
     let low : IsPartitionedBy (λ (p : Point). leb p.at c.args.at) c.points.result.now = rw c.points.ensures (IsPartitionedBy-leb (λ (p : Point). p.at) log c.args.at (at_up log is)) in
     let split : IsPartitionPoint (λ (p : Point). leb p.at c.args.at ≡ true) (λ p. leb p.at c.args.at ≡ false) c.points.result.now c.partition_point.result =
     IsPartitionPoint-from_clause (λ (p : Point). leb p.at c.args.at) c.points.result.now c.partition_point.result c.partition_point.ensures.partitioned low (λ a r f' k. search rules) in

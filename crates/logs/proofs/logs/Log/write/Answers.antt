@@ -5,13 +5,13 @@ use Rattle.logs.specs.Points.{points}
 use Rattle.logs.proofs.Filling.{drawn_none, drawn_more, drawn_all, wrote}
 use Rattle.logs.proofs.Gaps.{nth}
 use Rattle.logs.proofs.Walking.{ahead_all, ahead_more, step_of, gap_rises}
-use Rattle.logs.proofs.Sound.{is_log_lem}
+use Rattle.logs.proofs.Sound.{points_are_log}
 use Rattle.logs.proofs.logs.Log.write.Goals as goal
 
 pub loop-p-init : goal.loop-p-init
 loop-p-init g c =
     let log = points c.args.self.now in
-    let is = is_log_lem log c.args.self.now.sound in
+    let is = points_are_log c.args.self.now in
     let rest : windows_rest (array_windows_parts c.into_iter-p-iterator.result) ≡ log =
     ap (λ s. windows_rest (array_windows_parts s)) c.into_iter-p-iterator.ensures.into_iter_gives ∙ c.array_windows-p-items.ensures.rest ∙ c.points.ensures in
     (search rules, tt, rw rest (ahead_all log is), rw rest (drawn_none (goal.F-post g c.args.inside) log c.args.out.now is))

@@ -2,10 +2,10 @@ use Rattle.std.proofs.Common.{rules}
 use Rattle.tables.specs.Log.{low_table}
 use Rattle.logs.specs.Points.{points}
 use Rattle.logs.proofs.Filling.{low_draws}
-use Rattle.logs.proofs.Sound.{is_log_lem}
+use Rattle.logs.proofs.Sound.{points_are_log}
 use Rattle.logs.proofs.logs.Log.write_low.Goals as goal
 
 pub returns : goal.returns
 returns c =
     let log = points c.args.self.now in
-    c.write.ensures (low_table log) (low_draws _ (λ u v w h. search rules) log (is_log_lem log c.args.self.now.sound))
+    c.write.ensures (low_table log) (low_draws _ (λ u v w h. search rules) log (points_are_log c.args.self.now))
