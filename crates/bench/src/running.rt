@@ -1,4 +1,5 @@
-// The run of a plan on a logger.
+// The run of a plan on a logger. The plan is lent, so each call says that it means the same afterwards:
+// one clause is plainer than a type that every caller would have to wrap its plan in.
 ghost use Rattle.std.specs.Prelude.{◌≡◌};
 ghost use Rattle.denials.specs.Checks.{Decided};
 ghost use Rattle.denials.specs.Told.{told};

@@ -1,18 +1,14 @@
 // The score of a plan: its run on the diagonal, against the least width.
-ghost use Rattle.std.specs.Prelude.{◌≡◌, ◌*◌, ◌<◌, length};
+ghost use Rattle.std.specs.Prelude.{◌≡◌, ◌*◌, length};
 ghost use Rattle.denials.specs.Checks.{Decided};
 ghost use Rattle.denials.specs.Told.{told};
-ghost use Rattle.logs.specs.Buffers.{written};
-ghost use Rattle.logs.specs.Points.{points};
 ghost use Rattle.tables.specs.Least.{least_width};
-ghost use Rattle.tables.specs.Log.{span_of, low_table as low_table_of, high_table as high_table_of};
 ghost use Rattle.bench.specs.Guarantee.{Guarantee};
 ghost use Rattle.bench.specs.Scores.{score_denied, Fit, Scored};
 
 use super::running::read_out;
 use denials::Denial;
 use loggers::{Diagonal, Logger};
-use logs::Log;
 use plans::Plan;
 use tables::least_width;
 
@@ -38,10 +34,15 @@ pub fn score<P: Plan>(
     ensures plan { P.Plan.asks plan.new ≡ P.Plan.asks plan.old }
     ensures guarantee { Guarantee }
 {
-    match diagonal_for(span, rise, budget, low_table.len(), high_table.len()) {
-        Err(denial) => Err(denial),
-        Ok(diagonal) => Ok(measure(plan, &diagonal, budget, low_table, high_table)),
-    }
+    let diagonal = diagonal_for(span, rise, budget, low_table.len(), high_table.len())?;
+    // the run's checks and those of the rows are among those passed
+    let (ran, place) = read_out(&diagonal, plan, budget).unwrap();
+    place.log().write_low(low_table).unwrap();
+    place.log().write_high(high_table).unwrap();
+    Ok(Widths {
+        width: ran.high - ran.low,
+        least: least_on(&diagonal, budget),
+    })
 }
 
 // The diagonal to score on, where no check of a score fails.
@@ -54,10 +55,7 @@ fn diagonal_for(
 ) -> Result<Diagonal, Denial>
     ensures { Decided told (score_denied span rise budget low_len high_len) result (Fit span rise budget low_len high_len) (Unit {0}) }
 {
-    let diagonal = match Diagonal::new(span, rise) {
-        Err(denial) => return Err(denial),
-        Ok(diagonal) => diagonal,
-    };
+    let diagonal = Diagonal::new(span, rise)?;
     if budget > 254 || budget > span - 1 {
         return Err(Denial::Budget);
     }
@@ -68,41 +66,9 @@ fn diagonal_for(
     Ok(diagonal)
 }
 
-// The run on the diagonal, its tables and its score.
-fn measure<P: Plan>(
-    plan: &mut P,
-    diagonal: &Diagonal,
-    budget: u32,
-    low_table: &mut [u32],
-    high_table: &mut [u32],
-) -> Widths
-    requires { Fit diagonal.now.span diagonal.now.rise budget (length low_table.old) (length high_table.old) diagonal.now }
-    ensures scored { Scored (P.Plan.asks plan.old) diagonal.now.rise diagonal.now.span budget low_table.old low_table.new high_table.old high_table.new result }
-    ensures plan { P.Plan.asks plan.new ≡ P.Plan.asks plan.old }
-{
-    // the diagonal is fit, so no check of the run fails
-    let (ran, place) = read_out(diagonal, plan, budget).unwrap();
-    write_tables(place.log(), low_table, high_table);
-    Widths {
-        width: ran.high - ran.low,
-        least: least_on(diagonal, budget),
-    }
-}
-
-// Writes both tables of a log into rows that are long enough.
-fn write_tables(log: &Log, low_table: &mut [u32], high_table: &mut [u32])
-    requires low { span_of (points log.now) < length low_table.old }
-    requires high { span_of (points log.now) < length high_table.old }
-    ensures low { low_table.new ≡ written (low_table_of (points log.now)) (span_of (points log.now)) low_table.old }
-    ensures high { high_table.new ≡ written (high_table_of (points log.now)) (span_of (points log.now)) high_table.old }
-{
-    let _ = log.write_low(low_table);
-    let _ = log.write_high(high_table);
-}
-
 // The least width that any plan with so many questions can leave on the diagonal.
 fn least_on(diagonal: &Diagonal, budget: u32) -> u64
     ensures { result ≡ diagonal.now.rise * least_width diagonal.now.span budget }
 {
-    diagonal.rise() as u64 * least_width(diagonal.span(), budget)
+    u64::from(diagonal.rise()) * least_width(diagonal.span(), budget)
 }

@@ -1,26 +1,40 @@
-use Rattle.std.proofs.Common.{length, refl}
-use Rattle.denials.proofs.Passing.{denied}
-use Rattle.denials.specs.Told.{told}
+use Rattle.std.proofs.Common.{length, refl, arith}
 use Rattle.readout.proofs.Pasts.{history}
 use Rattle.tables.proofs.Benching.{bench, optimum}
+use Rattle.tables.specs.Log.{low_table, high_table}
 use Rattle.bench.specs.Guarantee.{Guarantee}
-use Rattle.bench.specs.Scores.{score_denied}
-use Rattle.bench.proofs.Measuring.{score_so}
+use Rattle.bench.proofs.Measuring.{in_order, row, scored}
 use Rattle.bench.proofs.scoring.score.Goals as goal
 
 guarantee : Guarantee
 guarantee = record { history = history; bench = bench; optimum = optimum }
 
-pub returns-in-Err : goal.returns-in-Err
-returns-in-Err g c = record {
-  decided = denied told (score_denied c.args.span c.args.rise c.args.budget (length c.args.low_table.now) (length c.args.high_table.now)) c.in-Err.denial _ _ _ _ c.in-Err.ensures (refl, refl);
-  plan = refl;
-  guarantee = guarantee;
-}
+pub returns-in_err-diagonal-clause-guarantee : goal.returns-in_err-diagonal-clause-guarantee
+returns-in_err-diagonal-clause-guarantee g c = guarantee
 
-pub returns-in-Ok : goal.returns-in-Ok
-returns-in-Ok g c = record {
-  decided = score_so (g.P.Plan.asks c.args.plan.now) c.args.rise c.args.span c.args.budget (length c.args.low_table.now) (length c.args.high_table.now) _ _ _ _ c.in-Ok.diagonal c.measure.result _ c.in-Ok.ensures c.measure.ensures.scored;
-  plan = c.measure.ensures.plan;
-  guarantee = guarantee;
-}
+pub unwrap-requires-2 : goal.unwrap-requires-2
+unwrap-requires-2 g c =
+    (row (g.P.Plan.asks c.args.plan.now) (g.P.Plan.lawful c.args.plan.now) c.args.span c.args.rise c.args.budget (length c.args.low_table.now) (length c.args.high_table.now) _ c.in_ok-diagonal.ensures _ c.read_out.ensures.decided _ c.unwrap.ensures
+    _ c.log.ensures low_table _ _ (omega arith) _ _ c.write_low.ensures).0
+
+pub unwrap-requires-3 : goal.unwrap-requires-3
+unwrap-requires-3 g c =
+    (row (g.P.Plan.asks c.args.plan.now) (g.P.Plan.lawful c.args.plan.now) c.args.span c.args.rise c.args.budget (length c.args.low_table.now) (length c.args.high_table.now) _ c.in_ok-diagonal.ensures _ c.read_out.ensures.decided _ c.unwrap.ensures
+    _ c.log-2.ensures high_table _ _ (omega arith) _ _ c.write_high.ensures).0
+
+pub overflow_sub-result : goal.overflow_sub-result
+overflow_sub-result g c =
+    omega (arith, in_order (g.P.Plan.asks c.args.plan.now) (g.P.Plan.lawful c.args.plan.now) c.args.span c.args.rise c.args.budget (length c.args.low_table.now) (length c.args.high_table.now) _ c.in_ok-diagonal.ensures _ c.read_out.ensures.decided _ c.unwrap.ensures)
+
+pub returns : goal.returns
+returns g c =
+    let low = row (g.P.Plan.asks c.args.plan.now) (g.P.Plan.lawful c.args.plan.now) c.args.span c.args.rise c.args.budget (length c.args.low_table.now) (length c.args.high_table.now) _ c.in_ok-diagonal.ensures _ c.read_out.ensures.decided _ c.unwrap.ensures
+    _ c.log.ensures low_table _ _ (omega arith) _ _ c.write_low.ensures in
+    let high = row (g.P.Plan.asks c.args.plan.now) (g.P.Plan.lawful c.args.plan.now) c.args.span c.args.rise c.args.budget (length c.args.low_table.now) (length c.args.high_table.now) _ c.in_ok-diagonal.ensures _ c.read_out.ensures.decided _ c.unwrap.ensures
+    _ c.log-2.ensures high_table _ _ (omega arith) _ _ c.write_high.ensures in
+    record {
+      decided = scored (g.P.Plan.asks c.args.plan.now) (g.P.Plan.lawful c.args.plan.now) c.args.span c.args.rise c.args.budget (length c.args.low_table.now) (length c.args.high_table.now) _ c.in_ok-diagonal.ensures _ c.read_out.ensures.decided _ c.unwrap.ensures
+          _ refl c.least_on.ensures _ _ _ _ low.1 high.1 _;
+      plan = c.read_out.ensures.plan;
+      guarantee = guarantee;
+    }
