@@ -2,6 +2,8 @@
 use Rattle.std.specs.Prelude.{◌≡◌, ℕ, Bool, cond, List, Some, None, Option}
 use Rattle.bench.specs.declared.scoring.Widths.{Widths}
 use Rattle.bench.specs.Scores.{Scored}
+use Rattle.plans.specs.declared.ways.Way.{Way}
+use Rattle.plans.specs.declared.ways.Way.TheVariants.{EqualSpacing, WidestRectangle}
 use Rattle.plans.specs.Widest.{widest_rectangle}
 use Rattle.tables.specs.declared.points.Point.{Point}
 use Rattle.tables.specs.Log.{SharpLimits}
@@ -24,6 +26,10 @@ answer_of (Some v) = record { denial = 0; answers = 1; low = v; high = v }
 -- the two ends of a table of span N
 abbrev pub ends_of : Table → ℕ → Reply
 ends_of t N = record { denial = 0; answers = 0; low = t 0; high = t N }
+
+-- the plan that a call names
+abbrev pub way_of : Bool → Way
+way_of widest = cond widest WidestRectangle EqualSpacing
 
 -- the plan that a call runs with n questions: the widest rectangle, or equal spacing made for n
 abbrev pub plan_of : Bool → ℕ → Plan

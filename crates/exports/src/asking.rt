@@ -1,6 +1,7 @@
 // Answers taken into a readout, one after the other, with the width after each.
 ghost use Rattle.std.specs.Prelude.{◌≡◌, slice_set};
 ghost use Rattle.std.specs.Option.{option_map};
+ghost use Rattle.denials.specs.Checks.{Decided};
 ghost use Rattle.denials.specs.Told.{told};
 ghost use Rattle.readout.specs.Calls.{opened, open_denied};
 ghost use Rattle.readout.specs.Views.{view};
@@ -9,7 +10,8 @@ ghost use Rattle.exports.specs.Asking.{asked, asked_all, summed};
 ghost use Rattle.exports.specs.Replies.{Replied};
 
 use super::answers::Answer;
-use super::replies::{Reply, deny};
+use super::replies::{Reply, tell};
+use denials::Denial;
 use readout::Readout;
 use trials::{Purpose, try_ask};
 
@@ -25,28 +27,38 @@ pub extern "C" fn sealed_answers(
 ) -> Reply
     ensures { Replied (option_map told (open_denied span first last budget)) result (λ s. (s ≡ summed (asked_all (opened span first last budget 0, widths.old) 0 answers.now).0) × (widths.new ≡ (asked_all (opened span first last budget 0, widths.old) 0 answers.now).1)) (widths.new ≡ widths.old) }
 {
+    tell(take_all(span, first, last, budget, answers, widths))
+}
+
+// The limits that the answers lead to.
+fn take_all(
+    span: u32,
+    first: u32,
+    last: u32,
+    budget: u32,
+    answers: &[Answer],
+    widths: &mut [u64],
+) -> Result<Reply, Denial>
+    ensures { Decided told (option_map told (open_denied span first last budget)) result (λ s. (s ≡ summed (asked_all (opened span first last budget 0, widths.old) 0 answers.now).0) × (widths.new ≡ (asked_all (opened span first last budget 0, widths.old) 0 answers.now).1)) (widths.new ≡ widths.old) }
+{
     let mut place = Readout::new();
-    match place.open(span, first, last, budget, 0) {
-        Ok(()) => {
-            ask_all(&mut place, answers, widths);
-            let summary = place.limits();
-            Reply {
-                denial: 0,
-                answers: summary.answers,
-                low: summary.low,
-                high: summary.high,
-            }
-        }
-        Err(denial) => deny(denial),
-    }
+    place.open(span, first, last, budget, 0)?;
+    ask_all(&mut place, answers, widths);
+    let summary = place.limits();
+    Ok(Reply {
+        denial: 0,
+        answers: summary.answers,
+        low: summary.low,
+        high: summary.high,
+    })
 }
 
 // Takes the answers into a readout in their order.
 fn ask_all(place: &mut Readout, answers: &[Answer], widths: &mut [u64])
     ensures { (view place.new, widths.new) ≡ asked_all (view place.old, widths.old) 0 answers.now }
 {
-    for i in 0..answers.len() {
-        ask(place, answers[i]);
+    for (i, answer) in answers.iter().enumerate() {
+        ask(place, *answer);
         show_width(place, widths, i);
     }
 }
@@ -63,7 +75,6 @@ fn show_width(place: &Readout, widths: &mut [u64], i: usize)
     ensures { widths.new ≡ slice_set widths.old i (width (view place.now).points) }
 {
     if i < widths.len() {
-        let summary = place.limits();
-        widths[i] = summary.high.saturating_sub(summary.low);
+        widths[i] = place.log().limits().width();
     }
 }

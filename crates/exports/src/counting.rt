@@ -1,4 +1,4 @@
-// Loggers made over lent rows, and one count of each.
+// One count of a logger over a lent row, and its ends.
 ghost use Rattle.std.specs.Prelude.{◌≡◌, ◌-◌, length};
 ghost use Rattle.counters.specs.Counting.{counter_table};
 ghost use Rattle.counters.specs.Makings.{counter_denied};
@@ -9,21 +9,17 @@ ghost use Rattle.strips.specs.Makings.{strip_denied};
 ghost use Rattle.exports.specs.Climate.{temperature_level};
 ghost use Rattle.exports.specs.Replies.{Replied, answer_of, ends_of};
 
-use super::replies::{Reply, deny};
-use counters::{ClimateReading, Counter};
-use loggers::{Logger, TableLogger};
-use strips::DoorStrip;
+use super::making::{counter_over, strip_over, table_over};
+use super::replies::{Reply, tell};
+use counters::ClimateReading;
+use loggers::Logger;
 
 // How many ones stand among the first x bits of a strip.
 #[unsafe(no_mangle)]
 pub extern "C" fn sealed_strip_count(words: &[u64], span: u32, x: u32) -> Reply
     ensures { Replied (strip_denied words.now span) result (λ s. s ≡ answer_of (counted (strip_table words.now) span x)) (Unit {0}) }
 {
-    let mut place = DoorStrip::new();
-    match place.fill(words, span) {
-        Ok(()) => count_at(&place, x),
-        Err(denial) => deny(denial),
-    }
+    tell(strip_over(words, span).map(|strip| count_at(&strip, x)))
 }
 
 // How many climate readings have a level of at most x.
@@ -31,11 +27,7 @@ pub extern "C" fn sealed_strip_count(words: &[u64], span: u32, x: u32) -> Reply
 pub extern "C" fn sealed_climate_count(readings: &[ClimateReading], span: u32, x: u32) -> Reply
     ensures { Replied (counter_denied span (length readings.now)) result (λ s. s ≡ answer_of (counted (counter_table temperature_level readings.now) span x)) (Unit {0}) }
 {
-    let mut place = Counter::new();
-    match place.fill(readings, span) {
-        Ok(()) => count_at(&place, x),
-        Err(denial) => deny(denial),
-    }
+    tell(counter_over(readings, span).map(|counter| count_at(&counter, x)))
 }
 
 // The ends of a table, which has to be made for that.
@@ -43,34 +35,31 @@ pub extern "C" fn sealed_climate_count(readings: &[ClimateReading], span: u32, x
 pub extern "C" fn sealed_table_ends(values: &[u32]) -> Reply
     ensures { Replied (table_denied values.now) result (λ s. s ≡ ends_of (row_table values.now) (length values.now - 1)) (Unit {0}) }
 {
-    let mut place = TableLogger::new();
-    match place.fill(values) {
-        Ok(()) => Reply {
-            denial: 0,
-            answers: 0,
-            low: place.first() as u64,
-            high: place.last() as u64,
-        },
-        Err(denial) => deny(denial),
-    }
+    tell(table_over(values).map(|table| ends(&table)))
 }
 
 // A logger's count at x.
 fn count_at<L: Logger>(logger: &L, x: u32) -> Reply
     ensures { result ≡ answer_of (counted (L.Logger.table logger.now) (L.Logger.extent logger.now) x) }
 {
-    match logger.count(x) {
-        Some(value) => Reply {
-            denial: 0,
-            answers: 1,
-            low: value as u64,
-            high: value as u64,
-        },
-        None => Reply {
-            denial: 0,
-            answers: 0,
-            low: 0,
-            high: 0,
-        },
+    let count = logger.count(x);
+    let value = count.unwrap_or(0) as u64;
+    Reply {
+        denial: 0,
+        answers: count.is_some() as u32,
+        low: value,
+        high: value,
+    }
+}
+
+// A logger's ends.
+fn ends<L: Logger>(logger: &L) -> Reply
+    ensures { result ≡ ends_of (L.Logger.table logger.now) (L.Logger.extent logger.now) }
+{
+    Reply {
+        denial: 0,
+        answers: 0,
+        low: logger.first() as u64,
+        high: logger.last() as u64,
     }
 }

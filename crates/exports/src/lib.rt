@@ -4,6 +4,7 @@
 mod answers;
 mod asking;
 mod counting;
+mod making;
 mod printing;
 mod replies;
 mod running;

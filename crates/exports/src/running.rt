@@ -5,32 +5,31 @@ ghost use Rattle.bench.specs.Runs.{budget_denied};
 ghost use Rattle.bench.specs.Scores.{score_denied};
 ghost use Rattle.counters.specs.Counting.{counter_table};
 ghost use Rattle.counters.specs.Makings.{counter_denied};
+ghost use Rattle.denials.specs.Checks.{Decided};
+ghost use Rattle.denials.specs.Told.{told};
 ghost use Rattle.loggers.specs.Makings.{table_denied};
 ghost use Rattle.loggers.specs.Meaning.{row_table};
+ghost use Rattle.plans.specs.Ways.{plan_of as way_plan};
 ghost use Rattle.strips.specs.Bits.{strip_table};
 ghost use Rattle.strips.specs.Makings.{strip_denied};
 ghost use Rattle.exports.specs.Climate.{temperature_level};
-ghost use Rattle.exports.specs.Replies.{Replied, RunOf, plan_of, ScoreOf};
+ghost use Rattle.exports.specs.Replies.{Replied, RunOf, plan_of, way_of, ScoreOf};
 
-use super::replies::{Reply, deny};
-use bench::{Line, Widths, run, score};
-use counters::{ClimateReading, Counter};
+use super::making::{counter_over, strip_over, table_over};
+use super::replies::{Reply, tell};
+use bench::{Widths, read_out, score};
+use counters::ClimateReading;
 use denials::Denial;
-use loggers::{Logger, TableLogger};
-use plans::{EqualSpacing, Plan, WidestRectangle};
-use readout::Readout;
-use strips::DoorStrip;
+use loggers::Logger;
+use plans::{Way, WidestRectangle};
 
 // Runs a plan on the table logger of these values.
 #[unsafe(no_mangle)]
 pub extern "C" fn sealed_table_run(values: &[u32], widest: bool, questions: u32) -> Reply
     ensures { Replied (option_or (table_denied values.now) (budget_denied (length values.now - 1) questions)) result (RunOf (plan_of widest questions) (row_table values.now) (length values.now - 1) questions) (Unit {0}) }
 {
-    let mut place = TableLogger::new();
-    match place.fill(values) {
-        Ok(()) => run_on(&place, widest, questions),
-        Err(denial) => deny(denial),
-    }
+    let way = way_of(widest);
+    tell(table_over(values).and_then(|table| run_on(&table, way, questions)))
 }
 
 // Runs a plan on the strip of these words.
@@ -38,11 +37,8 @@ pub extern "C" fn sealed_table_run(values: &[u32], widest: bool, questions: u32)
 pub extern "C" fn sealed_strip_run(words: &[u64], span: u32, widest: bool, questions: u32) -> Reply
     ensures { Replied (option_or (strip_denied words.now span) (budget_denied span questions)) result (RunOf (plan_of widest questions) (strip_table words.now) span questions) (Unit {0}) }
 {
-    let mut place = DoorStrip::new();
-    match place.fill(words, span) {
-        Ok(()) => run_on(&place, widest, questions),
-        Err(denial) => deny(denial),
-    }
+    let way = way_of(widest);
+    tell(strip_over(words, span).and_then(|strip| run_on(&strip, way, questions)))
 }
 
 // Runs a plan on the counter of these climate readings.
@@ -55,41 +51,33 @@ pub extern "C" fn sealed_climate_run(
 ) -> Reply
     ensures { Replied (option_or (counter_denied span (length readings.now)) (budget_denied span questions)) result (RunOf (plan_of widest questions) (counter_table temperature_level readings.now) span questions) (Unit {0}) }
 {
-    let mut place = Counter::new();
-    match place.fill(readings, span) {
-        Ok(()) => run_on(&place, widest, questions),
-        Err(denial) => deny(denial),
-    }
+    let way = way_of(widest);
+    tell(counter_over(readings, span).and_then(|counter| run_on(&counter, way, questions)))
 }
 
-// Runs the widest rectangle, or equal spacing made for so many questions.
-fn run_on<L: Logger>(logger: &L, widest: bool, questions: u32) -> Reply
-    ensures { Replied (budget_denied (L.Logger.extent logger.now) questions) result (RunOf (plan_of widest questions) (L.Logger.table logger.now) (L.Logger.extent logger.now) questions) (Unit {0}) }
+// The plan that C asks for.
+fn way_of(widest: bool) -> Way
+    ensures { result ≡ way_of widest }
 {
     if widest {
-        return run_plan(logger, WidestRectangle::new(), questions);
-    }
-    match EqualSpacing::new(questions) {
-        Ok(plan) => run_plan(logger, plan, questions),
-        Err(denial) => deny(denial),
+        Way::WidestRectangle
+    } else {
+        Way::EqualSpacing
     }
 }
 
-// Runs a plan with so many questions.
-fn run_plan<L: Logger, P: Plan + Drop>(logger: &L, mut plan: P, questions: u32) -> Reply
-    ensures { Replied (budget_denied (L.Logger.extent logger.now) questions) result (RunOf (P.Plan.asks plan) (L.Logger.table logger.now) (L.Logger.extent logger.now) questions) (Unit {0}) }
+// Runs the plan of this name, made for so many questions, with so many questions.
+fn run_on<L: Logger>(logger: &L, way: Way, questions: u32) -> Result<Reply, Denial>
+    ensures { Decided told (budget_denied (L.Logger.extent logger.now) questions) result (RunOf (way_plan way questions) (L.Logger.table logger.now) (L.Logger.extent logger.now) questions) (Unit {0}) }
 {
-    let mut line = Line::asleep();
-    let mut place = Readout::new();
-    match run(logger, &mut plan, questions, 0, &mut line, &mut place) {
-        Ok(ran) => Reply {
-            denial: 0,
-            answers: ran.asked,
-            low: ran.low,
-            high: ran.high,
-        },
-        Err(denial) => deny(denial),
-    }
+    let mut plan = way.plan(questions)?;
+    let (ran, _) = read_out(logger, &mut plan, questions)?;
+    Ok(Reply {
+        denial: 0,
+        answers: ran.asked,
+        low: ran.low,
+        high: ran.high,
+    })
 }
 
 // Scores the widest rectangle: the least width as the low limit, the width left as the high one.
@@ -104,13 +92,11 @@ pub extern "C" fn sealed_score(
     ensures { Replied (score_denied span rise questions (length low_table.old) (length high_table.old)) result (ScoreOf rise span questions low_table.old low_table.new high_table.old high_table.new) ((low_table.new ≡ low_table.old) × (high_table.new ≡ high_table.old)) }
 {
     let mut plan = WidestRectangle::new();
-    match score(&mut plan, span, rise, questions, low_table, high_table) {
-        Ok(widths) => Reply {
-            denial: 0,
-            answers: questions,
-            low: widths.least,
-            high: widths.width,
-        },
-        Err(denial) => deny(denial),
-    }
+    let scored = score(&mut plan, span, rise, questions, low_table, high_table);
+    tell(scored.map(|Widths { least, width }| Reply {
+        denial: 0,
+        answers: questions,
+        low: least,
+        high: width,
+    }))
 }

@@ -1,11 +1,11 @@
 -- The rows that the program fills. Assumes nothing.
-use Rattle.std.specs.Prelude.{ℕ, zero, suc, ◌+◌, ◌*◌, ◌/◌, ◌%◌, ◌^◌, List, [], ◌∷◌, ◌++◌}
+use Rattle.std.specs.Prelude.{ℕ, ◌+◌, ◌*◌, ◌/◌, ◌%◌, ◌^◌, List, map}
+use Rattle.std.specs.List.{range_with_len}
 use Rattle.counters.specs.declared.levels.SupplyReading.{SupplyReading}
 
 -- the row f(0) … f(n − 1)
 abbrev pub row : {X : Type 0} → (ℕ → X) → ℕ → List X
-row f zero = []
-row f (suc n) = row f n ++ f n ∷ []
+row f n = map f (range_with_len 0 n)
 
 -- the i-th value of the table: 0 0 0 1 1 1 2 …
 abbrev pub value : ℕ → ℕ

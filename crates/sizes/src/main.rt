@@ -6,6 +6,8 @@ mod rows;
 mod tries;
 
 use denials::Denial;
+use logs::Limits;
+use plans::Way;
 use rows::{readings, values, words};
 use std::io;
 use trials_kinds::Found;
@@ -57,21 +59,18 @@ fn say_all(rt: &HostRuntime) -> anyhow::Result<()> {
 // Says what a try gave.
 fn say(rt: &HostRuntime, what: &str, tried: Result<Tried, Denial>) -> io::Result<()> {
     match tried {
-        Ok(tried) => {
-            let span = tried.span;
-            let last = tried.last;
+        Ok(Tried { span, last, both }) => {
             println!(rt; "{what}: accepted, span {span}, last value {last}")?;
-            say_found(rt, "equal spacing", tried.both.spacing)?;
-            say_found(rt, "the widest rectangle", tried.both.widest)
+            say_found(rt, Way::EqualSpacing, both.spacing)?;
+            say_found(rt, Way::WidestRectangle, both.widest)
         }
         Err(denial) => println!(rt; "{what}: {denial}"),
     }
 }
 
 // Says what a run found.
-fn say_found(rt: &HostRuntime, plan: &str, found: Found) -> io::Result<()> {
+fn say_found(rt: &HostRuntime, plan: Way, found: Found) -> io::Result<()> {
     let asked = found.asked;
-    let low = found.sum.low;
-    let high = found.sum.high;
+    let Limits { low, high } = found.sum;
     println!(rt; "  {plan}: asked {asked}, low {low}, high {high}")
 }

@@ -9,33 +9,35 @@ use std::alloc::{AllocError, Global};
 pub fn values(heap: Global, n: u32) -> Result<Vec<u32>, AllocError>
     ensures { IfOk result (λ v. v.items ≡ row value n) }
 {
-    let mut all = Vec::new(heap);
-    for i in 0..n {
-        all.push(i / 3)?;
-    }
-    Ok(all)
+    (0..n).map(|i| i / 3).collect(heap)
 }
 
 // So many supply readings, of all levels up to 65,535.
 pub fn readings(heap: Global, n: u32) -> Result<Vec<SupplyReading>, AllocError>
     ensures { IfOk result (λ v. v.items ≡ row reading n) }
 {
-    let mut all = Vec::new(heap);
-    for i in 0..n {
-        all.push(SupplyReading {
-            millivolts: (i as u64 * 7_919 % 65_536) as u16,
-        })?;
-    }
-    Ok(all)
+    (0..n).map(reading).collect(heap)
 }
 
 // So many words of a strip.
 pub fn words(heap: Global, n: u32) -> Result<Vec<u64>, AllocError>
     ensures { IfOk result (λ v. v.items ≡ row word n) }
 {
-    let mut all = Vec::new(heap);
-    for i in 0..n {
-        all.push((i as u64 + 1).wrapping_mul(11_400_714_819_323_198_485))?;
+    (0..n).map(word).collect(heap)
+}
+
+// The supply reading at a place.
+fn reading(i: u32) -> SupplyReading
+    ensures { result ≡ reading i }
+{
+    SupplyReading {
+        millivolts: (i as u64 * 7_919 % 65_536) as u16,
     }
-    Ok(all)
+}
+
+// The word of a strip at a place.
+fn word(i: u32) -> u64
+    ensures { result ≡ word i }
+{
+    (i as u64 + 1).wrapping_mul(11_400_714_819_323_198_485)
 }

@@ -31,10 +31,8 @@ pub fn try_table(values: &[u32]) -> Result<Tried, Denial>
     ensures { Decided told (try_denied (table_denied values.now) (length values.now - 1)) result (TriedOn (row_table values.now) (length values.now - 1)) (Unit {0}) }
 {
     let mut place = TableLogger::new();
-    match place.fill(values) {
-        Ok(()) => try_logger(&place),
-        Err(denial) => Err(denial),
-    }
+    place.fill(values)?;
+    try_logger(&place)
 }
 
 // Tries the counter of these readings with this span.
@@ -42,10 +40,8 @@ pub fn try_counter(readings: &[SupplyReading], span: u32) -> Result<Tried, Denia
     ensures { Decided told (try_denied (counter_denied span (length readings.now)) span) result (TriedOn (counter_table millivolts readings.now) span) (Unit {0}) }
 {
     let mut place = Counter::new();
-    match place.fill(readings, span) {
-        Ok(()) => try_logger(&place),
-        Err(denial) => Err(denial),
-    }
+    place.fill(readings, span)?;
+    try_logger(&place)
 }
 
 // Tries the strip of these words with this span.
@@ -53,22 +49,17 @@ pub fn try_strip(words: &[u64], span: u32) -> Result<Tried, Denial>
     ensures { Decided told (try_denied (strip_denied words.now span) span) result (TriedOn (strip_table words.now) span) (Unit {0}) }
 {
     let mut place = DoorStrip::new();
-    match place.fill(words, span) {
-        Ok(()) => try_logger(&place),
-        Err(denial) => Err(denial),
-    }
+    place.fill(words, span)?;
+    try_logger(&place)
 }
 
 // Runs both plans on the logger.
 fn try_logger<L: Logger>(logger: &L) -> Result<Tried, Denial>
     ensures { Decided told (budget_denied (L.Logger.extent logger.now) 254) result (TriedOn (L.Logger.table logger.now) (L.Logger.extent logger.now)) (Unit {0}) }
 {
-    match run_both(logger, 254) {
-        Ok(both) => Ok(Tried {
-            span: logger.span(),
-            last: logger.last(),
-            both,
-        }),
-        Err(denial) => Err(denial),
-    }
+    Ok(Tried {
+        span: logger.span(),
+        last: logger.last(),
+        both: run_both(logger, 254)?,
+    })
 }

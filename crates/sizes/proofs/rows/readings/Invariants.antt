@@ -1,6 +1,0 @@
-use Rattle.std.proofs.Common.{◌≡◌, vec_items}
-use Rattle.sizes.specs.Rows.{row, reading}
-use Rattle.sizes.proofs.rows.readings.Given as goal
-
-abbrev pub invariant-loop-i : goal.invariant-loop-i
-invariant-loop-i l = vec_items l.all ≡ row reading l.i

@@ -1,7 +1,0 @@
-use Rattle.std.proofs.Common.{rules}
-use Rattle.sizes.specs.Rows.{word}
-use Rattle.sizes.proofs.Longer.{longer}
-use Rattle.sizes.proofs.rows.words.Goals as goal
-
-pub loop-i-preserved : goal.loop-i-preserved
-loop-i-preserved c = longer word c.loop-i.i _ _ c.loop-i.invariant (search rules)
