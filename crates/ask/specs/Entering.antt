@@ -5,29 +5,27 @@ use Rattle.bench.specs.Runs.{budget_denied}
 use Rattle.denials.specs.Told.{told}
 use Rattle.loggers.specs.Makings.{diagonal_denied, table_denied}
 use Rattle.loggers.specs.Meaning.{row_table}
+use Rattle.plans.specs.declared.ways.Way.{Way}
+use Rattle.plans.specs.Ways.{plan_of}
 use Rattle.tables.specs.Table.{diagonal}
-use Rattle.ask.specs.declared.lines.Fault.{Fault}
 use Rattle.ask.specs.declared.lines.Line.{Line}
 use Rattle.ask.specs.declared.lines.Line.TheVariants as line
-use Rattle.ask.specs.declared.lines.Way.{Way}
 use Rattle.ask.specs.declared.runs.Report.{Report}
 use Rattle.ask.specs.declared.sessions.Done.{Done}
 use Rattle.ask.specs.declared.sessions.Done.TheVariants as done
 use Rattle.ask.specs.declared.sessions.Refusal.{Refusal}
 use Rattle.ask.specs.declared.sessions.Refusal.TheVariants as refusal
-use Rattle.ask.specs.Reporting.{plan_of, Reported}
+use Rattle.ask.specs.Reporting.{Reported}
 use Rattle.ask.specs.Setting.{Held, nothing, row, slope}
 
--- why a line is refused: what a denial tells, that no logger is set, or that the line cannot be read
+-- why a line is refused: what a denial tells, or that no logger is set
 pub data Why : Type 0 where
   denied : ℕ × List ℕ → Why
   no_logger : Why
-  unclear : Fault → Why
 
 abbrev pub why : Refusal → Why
 why (refusal.Denied d) = denied (told d)
 why refusal.NoLogger = no_logger
-why (refusal.Unclear f) = unclear f
 
 -- what stands in the way of a run with n questions
 abbrev pub run_stands : Held → ℕ → Option Why
@@ -40,7 +38,6 @@ abbrev pub stands : Held → Line → Option Why
 stands h (line.Diagonal n c) = option_map denied (diagonal_denied n c)
 stands h (line.Table v) = option_map denied (table_denied (vec_items v))
 stands h (line.Run w n) = run_stands h n
-stands h (line.Unclear f) = Some (unclear f)
 
 -- the report of a run on the logger that is set
 abbrev pub RanOn : Held → Way → ℕ → Report → Type 0
@@ -59,4 +56,3 @@ abbrev pub Does : Held → Line → Held → Done → Type 0
 Does h (line.Diagonal n c) k d = (k ≡ slope n c) × (d ≡ done.Diagonal n c)
 Does h (line.Table v) k d = (k ≡ row (vec_items v)) × (d ≡ done.Table (length (vec_items v)))
 Does h (line.Run w n) k d = (k ≡ h) × SaysRan h w n d
-Does h (line.Unclear f) k d = ⊥

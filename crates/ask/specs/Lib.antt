@@ -1,5 +1,4 @@
 pub mod Reading
-pub mod Noted
 pub mod Reporting
 pub mod Setting
 pub mod Entering

@@ -2,15 +2,17 @@
 // Standard input: on each line one of `diagonal SPAN RISE`, `table V V …`, `spacing N` and `rectangle N`.
 #![tactic(auto)]
 
+mod answers;
+mod kinds;
 mod lines;
 mod notes;
-mod questions;
-mod rows;
+mod reading;
 mod runs;
 mod sessions;
 mod words;
 
-use lines::read_line;
+use lines::Unread;
+use reading::read_line;
 use sessions::Session;
 use std::io::{BufRead, BufReader};
 
@@ -21,15 +23,16 @@ fn main(rt: HostRuntime) -> anyhow::Result<()> {
 // Enters the lines one by one, and prints what each led to.
 fn answer_lines(rt: &HostRuntime) -> anyhow::Result<()> {
     let mut session = Session::new();
-    let mut number = 0u64;
-    for text in BufReader::new(rt.alloc(), rt.stdin())?.lines(rt.alloc()) {
-        let text = text?;
-        number = number.saturating_add(1);
-        if let Some(line) = read_line(rt.alloc(), text.as_str())? {
-            match session.enter(line) {
+    let lines = BufReader::new(rt.alloc(), rt.stdin())?.lines(rt.alloc());
+    for (number, text) in (1u64..).zip(lines) {
+        match read_line(rt.alloc(), text?.as_str()) {
+            Ok(None) => {}
+            Ok(Some(line)) => match session.enter(line) {
                 Ok(done) => println!(rt; "line {number}: {done}")?,
                 Err(refusal) => println!(rt; "line {number}: {refusal}")?,
-            }
+            },
+            Err(Unread::Unclear(fault)) => println!(rt; "line {number}: refused: {fault}")?,
+            Err(Unread::Memory(error)) => return Err(error.into()),
         }
     }
     Ok(())

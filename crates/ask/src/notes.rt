@@ -1,29 +1,28 @@
 // A plan that notes what it asks.
-ghost use Rattle.std.specs.Prelude.{◌≡◌, ◌<◌, [], ◌++◌};
+ghost use Rattle.std.specs.Prelude.{◌≡◌, ◌<◌, [], ◌++◌, length};
 ghost use Rattle.logs.specs.Points.{points};
 ghost use Rattle.std.specs.Option.{option_to_list};
-ghost use Rattle.ask.specs.Noted.{noted};
 
-use super::questions::Questions;
+use arrayvec::ArrayVec;
 use logs::Log;
 use plans::Plan;
 
-// A plan, with the questions that it has asked.
+// A plan, with the questions that it has asked: there is room for as many as a run may ask.
 #[derive(Drop)]
 pub struct Noting<P> {
     plan: P,
-    pub questions: Questions,
+    pub questions: ArrayVec<u32, 254>,
 }
 
 impl<P: Plan> Noting<P> {
     // The plan before its first question.
     pub fn new(plan: P) -> Noting<P>
         ensures plan { result.plan ≡ plan }
-        ensures none { noted result.questions ≡ [] }
+        ensures none { result.questions.items ≡ [] }
     {
         Noting {
             plan,
-            questions: Questions::none(),
+            questions: ArrayVec::new(),
         }
     }
 }
@@ -37,11 +36,11 @@ impl<P: Plan> Plan for Noting<P> {
     fn next(&mut self, log: &Log) -> Option<u32>
         ensures answer { result ≡ P.Plan.asks self.old.plan (points log.now) }
         ensures same { P.Plan.asks self.new.plan ≡ P.Plan.asks self.old.plan }
-        ensures notes { self.old.questions.count < 254 → noted self.new.questions ≡ noted self.old.questions ++ option_to_list result }
+        ensures notes { length self.old.questions.items < 254 → self.new.questions.items ≡ self.old.questions.items ++ option_to_list result }
     {
         let answer = self.plan.next(log);
         if let Some(at) = answer {
-            self.questions.note(at);
+            let _ = self.questions.try_push(at);
         }
         answer
     }

@@ -1,80 +1,55 @@
 // A run of a plan on a logger, and the report of it.
-ghost use Rattle.std.specs.Prelude.{◌≡◌, ◌≤◌, length};
+ghost use Rattle.std.specs.Prelude.{◌≡◌, ◌≤◌, length, map};
 ghost use Rattle.denials.specs.Checks.{Decided};
 ghost use Rattle.denials.specs.Told.{told};
 ghost use Rattle.bench.specs.Runs.{budget_denied};
-ghost use Rattle.ask.specs.Reporting.{plan_of, Counts, Reported};
+ghost use Rattle.plans.specs.Ways.{plan_of};
+ghost use Rattle.ask.specs.Reporting.{answer_at, Reported};
 
-use super::lines::Way;
+use super::answers::Answer;
 use super::notes::Noting;
-use super::questions::Questions;
-use bench::{Line, run};
+use arrayvec::ArrayVec;
+use bench::read_out;
 use denials::Denial;
 use loggers::Logger;
 use logs::Limits;
-use plans::{EqualSpacing, Plan, WidestRectangle};
-use readout::Readout;
+use plans::Way;
 
-// What a run came to: its questions with the logger's counts, the limits of the sum,
+// What a run came to: its questions in their order with the logger's counts, how many they are, the limits of the sum,
 // and the width that no plan with as many questions undercuts on every table between the same ends.
-#[derive(Clone, Copy)]
+#[derive(Drop)]
 pub struct Report {
-    pub questions: Questions,
-    pub counts: [Option<u32>; 254],
+    pub answers: ArrayVec<Answer, 254>,
     pub asked: u32,
     pub limits: Limits,
     pub promise: u64,
 }
 
-// Runs the plan of this name, made for so many questions, with so many questions on the logger.
+// Runs the plan of this name, made for so many questions, with so many questions on the logger, and notes what it asks.
 pub fn run_on<L: Logger>(logger: &L, way: Way, questions: u32) -> Result<Report, Denial>
     ensures { Decided told (budget_denied (L.Logger.extent logger.now) questions) result (Reported (plan_of way questions) (L.Logger.table logger.now) (L.Logger.extent logger.now) questions) (Unit {0}) }
 {
-    match way {
-        Way::EqualSpacing => match EqualSpacing::new(questions) {
-            Ok(plan) => run_noting(logger, plan, questions),
-            Err(denial) => Err(denial),
-        },
-        Way::WidestRectangle => run_noting(logger, WidestRectangle::new(), questions),
-    }
+    let mut noting = Noting::new(way.plan(questions)?);
+    let (ran, place) = read_out(logger, &mut noting, questions)?;
+    Ok(Report {
+        answers: answers_at(logger, noting.questions.as_slice()),
+        asked: ran.asked,
+        limits: place.log().limits(),
+        promise: place.log().promise(),
+    })
 }
 
-// Runs a plan with so many questions on the logger, and notes what it asks.
-fn run_noting<L: Logger, P: Plan + Drop>(
-    logger: &L,
-    plan: P,
-    questions: u32,
-) -> Result<Report, Denial>
-    ensures { Decided told (budget_denied (L.Logger.extent logger.now) questions) result (Reported (P.Plan.asks plan) (L.Logger.table logger.now) (L.Logger.extent logger.now) questions) (Unit {0}) }
+// What the logger counts at each of these questions.
+fn answers_at<L: Logger>(logger: &L, questions: &[u32]) -> ArrayVec<Answer, 254>
+    requires { length questions.now ≤ 254 }
+    ensures { result.items ≡ map (answer_at (L.Logger.table logger.now) (L.Logger.extent logger.now)) questions.now }
 {
-    let mut noting = Noting::new(plan);
-    let mut line = Line::asleep();
-    let mut place = Readout::new();
-    match run(logger, &mut noting, questions, 0, &mut line, &mut place) {
-        Err(denial) => Err(denial),
-        Ok(ran) => {
-            let mut counts = [None; 254];
-            count_into(logger, noting.questions.as_slice(), &mut counts);
-            Ok(Report {
-                questions: noting.questions,
-                counts,
-                asked: ran.asked,
-                limits: Limits {
-                    low: ran.low,
-                    high: ran.high,
-                },
-                promise: place.log().promise(),
-            })
-        }
+    let mut answers = ArrayVec::new();
+    for at in questions {
+        answers.push(Answer {
+            at: *at,
+            count: logger.count(*at),
+        });
     }
-}
-
-// Writes what the logger counts at each of these questions into the row.
-fn count_into<L: Logger>(logger: &L, questions: &[u32], counts: &mut [Option<u32>])
-    requires { length questions.now ≤ length counts.old }
-    ensures { Counts (L.Logger.table logger.now) (L.Logger.extent logger.now) questions.now counts.new }
-{
-    for (i, at) in questions.iter().enumerate() {
-        counts[i] = logger.count(*at);
-    }
+    answers
 }

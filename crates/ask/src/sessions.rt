@@ -1,32 +1,24 @@
 // A session: the logger that is set, and what each line does.
-ghost use Rattle.std.specs.Prelude.{◌≡◌, length};
+ghost use Rattle.std.specs.Prelude.{◌≡◌};
 ghost use Rattle.denials.specs.Checks.{Decided};
-ghost use Rattle.denials.specs.Told.{told};
-ghost use Rattle.loggers.specs.Makings.{diagonal_denied, table_denied};
-ghost use Rattle.ask.specs.Setting.{held, row, slope, nothing};
+ghost use Rattle.ask.specs.declared.sessions.Refusal.TheVariants.{Denied as Denies};
+ghost use Rattle.ask.specs.Setting.{held, nothing};
 ghost use Rattle.ask.specs.Entering.{why, stands, run_stands, Does, RanOn};
 
-use super::lines::{Fault, Line, Way};
-use super::rows::Row;
+use super::lines::Line;
 use super::runs::{Report, run_on};
 use denials::Denial;
-use loggers::Diagonal;
+use loggers::{Chosen, Diagonal, KeptTable};
+use plans::Way;
 
-// The logger that is set.
-#[derive(Drop)]
-pub enum Chosen {
-    Nothing,
-    Table(Row),
-    Diagonal(Diagonal),
-}
-
+// The logger that is set, where one is.
 #[derive(Drop)]
 pub struct Session {
-    chosen: Chosen,
+    chosen: Option<Chosen<Vec<u32>>>,
 }
 
 // What an accepted line did.
-#[derive(Clone, Copy)]
+#[derive(Drop)]
 pub enum Done {
     // a diagonal of this span and rise is set
     Diagonal(u32, u32),
@@ -38,11 +30,18 @@ pub enum Done {
 
 // Why a line was refused.
 #[derive(Clone, Copy)]
-pub enum Refusal<'a> {
+pub enum Refusal {
     Denied(Denial),
     // no logger is set
     NoLogger,
-    Unclear(Fault<'a>),
+}
+
+impl From<Denial> for Refusal {
+    ghost from_gives = { λ denial refusal. refusal ≡ Denies denial };
+
+    fn from(denial: Denial) -> Refusal {
+        Refusal::Denied(denial)
+    }
 }
 
 impl Session {
@@ -50,71 +49,36 @@ impl Session {
     pub fn new() -> Session
         ensures { held result.chosen ≡ nothing }
     {
-        Session {
-            chosen: Chosen::Nothing,
-        }
+        Session { chosen: None }
     }
 
     // Enters one line. A refused line changes nothing.
-    pub fn enter<'a>(&mut self, line: Line<'a>) -> Result<Done, Refusal<'a>>
-        ensures { Decided why (stands (held self.old.chosen) line.entry) result (Does (held self.old.chosen) line.entry (held self.new.chosen)) (self.new ≡ self.old) }
+    pub fn enter(&mut self, line: Line) -> Result<Done, Refusal>
+        ensures { Decided why (stands (held self.old.chosen) line) result (Does (held self.old.chosen) line (held self.new.chosen)) (self.new ≡ self.old) }
     {
         match line {
-            Line::Diagonal(span, rise) => match self.set_diagonal(span, rise) {
-                Ok(()) => Ok(Done::Diagonal(span, rise)),
-                Err(denial) => Err(Refusal::Denied(denial)),
-            },
-            Line::Table(values) => match self.set_table(values) {
-                Ok(count) => Ok(Done::Table(count)),
-                Err(denial) => Err(Refusal::Denied(denial)),
-            },
-            Line::Run(way, questions) => match self.run(way, questions) {
-                Ok(report) => Ok(Done::Ran(way, report)),
-                Err(refusal) => Err(refusal),
-            },
-            Line::Unclear(fault) => Err(Refusal::Unclear(fault)),
-        }
-    }
-
-    // Sets the logger to a diagonal.
-    fn set_diagonal(&mut self, span: u32, rise: u32) -> Result<(), Denial>
-        ensures { Decided told (diagonal_denied span rise) result (λ _. held self.new.chosen ≡ slope span rise) (self.new ≡ self.old) }
-    {
-        match Diagonal::new(span, rise) {
-            Ok(diagonal) => {
-                self.chosen = Chosen::Diagonal(diagonal);
-                Ok(())
+            Line::Diagonal(span, rise) => {
+                let diagonal = Diagonal::new(span, rise)?;
+                self.chosen = Some(Chosen::Diagonal(diagonal));
+                Ok(Done::Diagonal(span, rise))
             }
-            Err(denial) => Err(denial),
-        }
-    }
-
-    // Sets the logger to a table, and tells how many values it has.
-    fn set_table(&mut self, values: Vec<u32>) -> Result<usize, Denial>
-        ensures { Decided told (table_denied values.items) result (λ n. (n ≡ length values.items) × (held self.new.chosen ≡ row values.items)) (self.new ≡ self.old) }
-    {
-        match Row::new(values) {
-            Ok(row) => {
-                let count = row.len();
-                self.chosen = Chosen::Table(row);
-                Ok(count)
+            Line::Table(values) => {
+                let table = KeptTable::new(values)?;
+                let count = table.len();
+                self.chosen = Some(Chosen::Table(table));
+                Ok(Done::Table(count))
             }
-            Err(denial) => Err(denial),
+            Line::Run(way, questions) => Ok(Done::Ran(way, self.run(way, questions)?)),
         }
     }
 
     // Runs a plan on the logger that is set.
-    fn run<'a>(&self, way: Way, questions: u32) -> Result<Report, Refusal<'a>>
+    fn run(&self, way: Way, questions: u32) -> Result<Report, Refusal>
         ensures { Decided why (run_stands (held self.now.chosen) questions) result (RanOn (held self.now.chosen) way questions) (Unit {0}) }
     {
-        let run = match &self.chosen {
-            Chosen::Nothing => return Err(Refusal::NoLogger),
-            Chosen::Table(row) => run_on(&row.logger(), way, questions),
-            Chosen::Diagonal(diagonal) => run_on(diagonal, way, questions),
+        let Some(logger) = &self.chosen else {
+            return Err(Refusal::NoLogger);
         };
-        match run {
-            Ok(report) => Ok(report),
-            Err(denial) => Err(Refusal::Denied(denial)),
-        }
+        Ok(run_on(logger, way, questions)?)
     }
 }

@@ -1,31 +1,23 @@
 // What is printed.
-use super::lines::{Fault, Way};
+use super::answers::Answer;
+use super::lines::Fault;
 use super::runs::Report;
 use super::sessions::{Done, Refusal};
 use denials::Denial;
+use logs::Limits;
 use std::fmt;
-
-// The plan, in words.
-fn plan_name(way: Way) -> &'static str {
-    match way {
-        Way::EqualSpacing => "equal spacing",
-        Way::WidestRectangle => "the widest rectangle",
-    }
-}
 
 // The questions in their order, then the limits.
 impl fmt::Display for Report {
     fn fmt<W: fmt::Write>(&self, f: &mut fmt::Formatter<W>) -> fmt::Result {
-        let mut number = 0u32;
-        for (at, count) in self.questions.as_slice().iter().zip(self.counts.iter()) {
-            number = number.saturating_add(1);
-            match *count {
+        for (i, Answer { at, count }) in self.answers.iter().enumerate() {
+            let number = i + 1;
+            match count {
                 Some(value) => writeln!(f, "  {number}: at {at} the logger counts {value}")?,
                 None => writeln!(f, "  {number}: at {at} the logger counts nothing")?,
             }
         }
-        let low = self.limits.low;
-        let high = self.limits.high;
+        let Limits { low, high } = self.limits;
         let width = self.limits.width();
         let asked = self.asked;
         let promise = self.promise;
@@ -49,10 +41,7 @@ impl fmt::Display for Done {
                 "set a diagonal of span {span} and rise {rise}"
             ),
             Done::Table(count) => write!(f, "set a table of {count} values"),
-            Done::Ran(way, report) => {
-                let name = plan_name(*way);
-                write!(f, "ran {name}\n{report}")
-            }
+            Done::Ran(way, report) => write!(f, "ran {way}\n{report}"),
         }
     }
 }
@@ -75,7 +64,7 @@ impl fmt::Display for Fault<'_> {
 }
 
 // Why a line was refused.
-impl fmt::Display for Refusal<'_> {
+impl fmt::Display for Refusal {
     fn fmt<W: fmt::Write>(&self, f: &mut fmt::Formatter<W>) -> fmt::Result {
         match *self {
             Refusal::Denied(denial) => match denial {
@@ -83,7 +72,6 @@ impl fmt::Display for Refusal<'_> {
                 _ => write!(f, "{denial}"),
             },
             Refusal::NoLogger => write!(f, "refused: no logger is set yet"),
-            Refusal::Unclear(fault) => write!(f, "refused: {fault}"),
         }
     }
 }
