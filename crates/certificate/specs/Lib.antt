@@ -1,3 +1,5 @@
 pub mod Jobs
 pub mod Units
 pub mod Amounts
+pub mod Sheets
+pub mod Faults

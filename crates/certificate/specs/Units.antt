@@ -1,10 +1,19 @@
 -- How amounts are written. Assumes nothing.
-use Rattle.std.specs.Prelude.{ℕ, ◌/◌, ◌%◌, List, [], ◌∷◌, ◌++◌, ℤ, pos, negsuc, decimal, unsigned_abs}
+use Rattle.std.specs.Prelude.{ℕ, zero, suc, ◌/◌, ◌%◌, ◌^◌, List, [], ◌∷◌, ◌++◌, ℤ, pos, negsuc, decimal, unsigned_abs}
 
 -- a minus sign, in UTF-8, before what is negative
 abbrev pub sign : ℤ → List ℕ
 sign (pos n) = []
 sign (negsuc n) = 226 ∷ 136 ∷ 146 ∷ []
+
+-- n in k digits, zeros in front
+abbrev pub in_digits : ℕ → ℕ → List ℕ
+in_digits zero n = []
+in_digits (suc k) n = in_digits k (n / 10) ++ decimal (n % 10)
+
+-- a number of the smallest part that is shown, with k places after the point
+abbrev pub with_places : ℕ → ℤ → List ℕ
+with_places k z = let n = unsigned_abs z in sign z ++ (decimal (n / 10 ^ k) ++ (46 ∷ in_digits k (n % 10 ^ k)))
 
 -- hundredths of a degree, as degrees with two places after the point
 abbrev pub degrees : ℤ → List ℕ

@@ -1,7 +1,11 @@
 // What is to be certified: the kind of readings, the span and the number of questions.
-ghost use Rattle.certificate.specs.Jobs.{SaysKind, SaysJob};
+ghost use Rattle.std.specs.Prelude.{Some};
+ghost use Rattle.certificate.specs.Jobs.{name_of, misuse_says, SaysKind, SaysJob, SaysWords};
 
-use records::whole_u32;
+use records::whole;
+use std::error::Error;
+use std::fmt;
+use std::str::FromStr;
 
 #[derive(Clone, Copy, PartialEq, Eq, Debug)]
 pub enum Kind {
@@ -29,46 +33,64 @@ pub enum Misuse {
     Questions,
 }
 
-// Reads the three words of a job.
-pub(crate) fn read_job(text: &str) -> Result<Job, Misuse> {
-    let mut words = text.split_whitespace();
-    let (Some(kind), Some(span), Some(questions)) = (words.next(), words.next(), words.next())
-    else {
-        return Err(Misuse::Words);
-    };
-    if words.next().is_some() {
-        return Err(Misuse::Words);
+impl fmt::Display for Kind {
+    ghost output = { λ kind. Some (name_of kind) };
+
+    fn fmt<W: fmt::Write>(&self, f: &mut fmt::Formatter<W>) -> fmt::Result {
+        f.write_str(match self {
+            Kind::Climate => "climate",
+            Kind::Supply => "supply",
+        })
     }
-    job_of(kind, span, questions)
+}
+
+impl FromStr for Kind {
+    type Err = Misuse;
+
+    ghost from_str_gives = { SaysKind };
+
+    fn from_str(word: &str) -> Result<Kind, Misuse> {
+        match word {
+            "climate" => Ok(Kind::Climate),
+            "supply" => Ok(Kind::Supply),
+            _ => Err(Misuse::Kind),
+        }
+    }
+}
+
+impl fmt::Display for Misuse {
+    ghost output = { λ misuse. Some (misuse_says misuse) };
+
+    fn fmt<W: fmt::Write>(&self, f: &mut fmt::Formatter<W>) -> fmt::Result {
+        f.write_str(match self {
+            Misuse::Words =>
+                "a kind, a span and a number of questions are needed, and nothing else",
+            Misuse::Kind => "the kind is neither climate nor supply",
+            Misuse::Span => "the span is no whole number up to 4,294,967,295",
+            Misuse::Questions => "the number of questions is no whole number up to 4,294,967,295",
+        })
+    }
+}
+
+impl Error for Misuse {}
+
+// Reads the three words of a job.
+pub(crate) fn read_job(words: &[&str]) -> Result<Job, Misuse>
+    ensures { SaysWords words.now result }
+{
+    match words {
+        [kind, span, questions] => job_of(kind, span, questions),
+        _ => Err(Misuse::Words),
+    }
 }
 
 // The job of these three words.
 fn job_of(kind: &str, span: &str, questions: &str) -> Result<Job, Misuse>
     ensures { SaysJob kind.now span.now questions.now result }
 {
-    let Some(kind) = kind_of(kind) else {
-        return Err(Misuse::Kind);
-    };
-    let Some(span) = whole_u32(span) else {
-        return Err(Misuse::Span);
-    };
-    let Some(questions) = whole_u32(questions) else {
-        return Err(Misuse::Questions);
-    };
     Ok(Job {
-        kind,
-        span,
-        questions,
+        kind: kind.parse()?,
+        span: whole(span).ok_or(Misuse::Span)?,
+        questions: whole(questions).ok_or(Misuse::Questions)?,
     })
-}
-
-// The kind of this name.
-fn kind_of(word: &str) -> Option<Kind>
-    ensures { SaysKind word.now result }
-{
-    match word {
-        "climate" => Some(Kind::Climate),
-        "supply" => Some(Kind::Supply),
-        _ => None,
-    }
 }

@@ -1,23 +1,24 @@
 // Lines that are refused, amounts in their units, and jobs.
-use crate::gathering::gather;
+use crate::decimals::Decimal;
+use crate::faults::BadLines;
 use crate::jobs::{Job, Kind, Misuse, read_job};
-use crate::units::{Degrees, Volts};
-use crate::words::{BadLines, Sheet};
+use crate::readings::Readings;
+use crate::sheets::Sheet;
 use counters::{ClimateReading, SupplyReading};
 use records::{Fault, Line, Refusal, Written, read_line};
 use std::process::Abort;
 use std::test::Fail;
 
 // Whether hundredths of a degree are shown so.
-fn degrees(rt: &(impl Abort + AllocGlobal), value: i64, text: &str) -> Result<(), Fail> {
-    let shown = Degrees(value).to_string(rt.alloc())?;
+fn degrees(rt: &(impl Abort + AllocGlobal), parts: i64, text: &str) -> Result<(), Fail> {
+    let shown = Decimal::<2> { parts }.to_string(rt.alloc())?;
     assert!(rt; shown.as_str() == text, "{}", text);
     Ok(())
 }
 
 // Whether millivolts are shown so.
-fn volts(rt: &(impl Abort + AllocGlobal), value: i64, text: &str) -> Result<(), Fail> {
-    let shown = Volts(value).to_string(rt.alloc())?;
+fn volts(rt: &(impl Abort + AllocGlobal), parts: i64, text: &str) -> Result<(), Fail> {
+    let shown = Decimal::<3> { parts }.to_string(rt.alloc())?;
     assert!(rt; shown.as_str() == text, "{}", text);
     Ok(())
 }
@@ -35,7 +36,7 @@ fn amounts_are_shown(rt: HostRuntime) -> Result<(), Fail> {
 // Whether a first line of the climate has this fault.
 fn fault(rt: &impl Abort, text: &str, fault: Fault) -> Result<(), Fail> {
     match read_line::<ClimateReading>(text, true) {
-        Line::Bad(found) => {
+        Err(found) => {
             assert_eq!(rt; found, fault, "{}", text);
             Ok(())
         },
@@ -54,7 +55,7 @@ fn bad_lines_are_refused(rt: HostRuntime) -> Result<(), Fail> {
     fault(&rt, "12,5,6", Fault::Temperature)?;
     fault(&rt, "12,", Fault::Temperature)?;
     match read_line::<SupplyReading>("65536", true) {
-        Line::Bad(found) => {
+        Err(found) => {
             assert_eq!(rt; found, Fault::Millivolts);
             Ok(())
         },
@@ -65,17 +66,22 @@ fn bad_lines_are_refused(rt: HostRuntime) -> Result<(), Fail> {
 #[test]
 fn lines_are_read(rt: HostRuntime) -> Result<(), Fail> {
     match read_line::<ClimateReading>(" 4294967295 , -32768\r", true) {
-        Line::Reading(reading) => {
+        Ok(Line::Reading(reading)) => {
             assert!(rt; reading.minute == 4_294_967_295 && reading.temperature == -32_768)
         }
         _ => return Err(Fail::new("no reading")),
     }
-    assert!(rt; matches!(read_line::<ClimateReading>(" \r", true), Line::Blank));
-    assert!(rt; matches!(read_line::<ClimateReading>("minute,t", true), Line::Header));
+    assert!(rt; matches!(read_line::<ClimateReading>(" \r", true), Ok(Line::Blank)));
+    assert!(rt;
+        matches!(
+            read_line::<ClimateReading>("minute,t", true),
+            Ok(Line::Header)
+        )
+    );
     assert!(rt;
         matches!(
             read_line::<ClimateReading>("minute,t", false),
-            Line::Bad(Fault::Minute)
+            Err(Fault::Minute)
         )
     );
     Ok(())
@@ -83,7 +89,11 @@ fn lines_are_read(rt: HostRuntime) -> Result<(), Fail> {
 
 #[test]
 fn bad_batch_is_not_certified(rt: HostRuntime) -> Result<(), Fail> {
-    let batch = gather::<SupplyReading>(rt.alloc(), "mV\n3300\n\nabc\n", 1)?;
+    let readings = Readings {
+        text: "mV\n3300\n\nabc\n",
+        first: 2,
+    };
+    let batch = readings.gather::<SupplyReading>(rt.alloc())?;
     assert!(rt; matches!(batch.report(4_000, 3), Err(Refusal::BadLines)));
     let lines = BadLines {
         lines: batch.bad_lines(),
@@ -98,14 +108,12 @@ fn bad_batch_is_not_certified(rt: HostRuntime) -> Result<(), Fail> {
 
 #[test]
 fn no_reading_is_said_plainly(rt: HostRuntime) -> Result<(), Fail> {
-    let batch = gather::<SupplyReading>(rt.alloc(), "", 0)?;
+    let readings = Readings { text: "", first: 1 };
+    let batch = readings.gather::<SupplyReading>(rt.alloc())?;
     let Ok(report) = batch.report(4_000, 20) else {
         return Err(Fail::new("refused"));
     };
-    let sheet = Sheet {
-        kind: Kind::Supply,
-        report,
-    };
+    let sheet = Sheet::<SupplyReading>::new(report);
     let shown = sheet.to_string(rt.alloc())?;
     assert!(rt;
         shown.as_str()
@@ -121,10 +129,16 @@ fn jobs_are_read(rt: HostRuntime) {
         span: 8_000,
         questions: 40,
     };
-    assert_eq!(rt; read_job("climate 8000 40 "), Ok(job));
-    assert_eq!(rt; read_job("climate 8000"), Err(Misuse::Words));
-    assert_eq!(rt; read_job("climate 8000 40 1"), Err(Misuse::Words));
-    assert_eq!(rt; read_job("Climate 8000 40"), Err(Misuse::Kind));
-    assert_eq!(rt; read_job("supply -1 40"), Err(Misuse::Span));
-    assert_eq!(rt; read_job("supply 8000 4294967296"), Err(Misuse::Questions));
+    assert_eq!(rt; read_job(&["climate", "8000", "40"]), Ok(job));
+    assert_eq!(rt; read_job(&["climate", "8000"]), Err(Misuse::Words));
+    assert_eq!(rt;
+        read_job(&["climate", "8000", "40", "1"]),
+        Err(Misuse::Words)
+    );
+    assert_eq!(rt; read_job(&["Climate", "8000", "40"]), Err(Misuse::Kind));
+    assert_eq!(rt; read_job(&["supply", "-1", "40"]), Err(Misuse::Span));
+    assert_eq!(rt;
+        read_job(&["supply", "8000", "4294967296"]),
+        Err(Misuse::Questions)
+    );
 }

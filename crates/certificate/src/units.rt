@@ -1,90 +1,90 @@
-// Amounts in the units that people read.
-ghost use Rattle.std.specs.Prelude.{◌≡◌, Some};
-ghost use Rattle.certificate.specs.Units.{sign, degrees, volts};
-ghost use Rattle.certificate.specs.Amounts.{of_level, amount};
+// The kinds of readings that are certified, and amounts in their units.
+ghost use Rattle.std.specs.Prelude.{◌≡◌, ℕ, ℤ, List, Some};
+ghost use Rattle.std.specs.Fmt.{DisplaysOnOk};
+ghost use Rattle.certificate.specs.declared.jobs.Kind.{Kind as Named};
+ghost use Rattle.certificate.specs.declared.jobs.Kind.TheVariants.{Climate, Supply};
+ghost use Rattle.certificate.specs.Amounts.{of_level, in_degrees, in_volts};
 
+use super::decimals::Decimal;
 use super::jobs::Kind;
-use counters::{ClimateReading, OwnUnit, SupplyReading};
+use counters::{ClimateReading, SupplyReading};
+use records::Written;
 use std::fmt;
+use std::marker::PhantomData;
 
-// Hundredths of a degree, shown as degrees: −12.34.
-#[derive(Clone, Copy)]
-pub struct Degrees(pub i64);
+// A kind of reading that is certified: its name, and how people write an amount in its unit.
+pub trait Certified: Written {
+    // an amount in the kind's own unit
+    ghost shown: { ℤ → List ℕ };
 
-// Millivolts, shown as volts: 3.307.
-#[derive(Clone, Copy)]
-pub struct Volts(pub i64);
+    // its name
+    ghost KIND: { Named };
 
-impl fmt::Display for Degrees {
-    ghost output = { λ d. Some (degrees d.0) };
+    const KIND: Kind;
 
-    fn fmt<W: fmt::Write>(&self, f: &mut fmt::Formatter<W>) -> fmt::Result {
-        let sign = sign_of(self.0);
-        let size = self.0.unsigned_abs();
-        let whole = size / 100;
-        let tenths = size / 10 % 10;
-        let hundredths = size % 10;
-        write!(f, "{sign}{whole}.{tenths}{hundredths}")
+    // Writes an amount in the kind's own unit.
+    fn write_amount<W: fmt::Write>(value: i64, f: &mut fmt::Formatter<W>) -> fmt::Result
+        ensures { DisplaysOnOk W.write_str_gives f.old result (Some (shown value)) f.new };
+}
+
+impl Certified for ClimateReading {
+    ghost shown = { in_degrees };
+
+    ghost KIND = { Climate };
+
+    const KIND: Kind = Kind::Climate;
+
+    #[tactic(auto, using(crate::proofs::Places::hundredths))]
+    fn write_amount<W: fmt::Write>(value: i64, f: &mut fmt::Formatter<W>) -> fmt::Result {
+        let degrees = Decimal::<2> { parts: value };
+        write!(f, "{degrees} °C")
     }
 }
 
-impl fmt::Display for Volts {
-    ghost output = { λ v. Some (volts v.0) };
+impl Certified for SupplyReading {
+    ghost shown = { in_volts };
 
-    fn fmt<W: fmt::Write>(&self, f: &mut fmt::Formatter<W>) -> fmt::Result {
-        let sign = sign_of(self.0);
-        let size = self.0.unsigned_abs();
-        let whole = size / 1_000;
-        let tenths = size / 100 % 10;
-        let hundredths = size / 10 % 10;
-        let thousandths = size % 10;
-        write!(f, "{sign}{whole}.{tenths}{hundredths}{thousandths}")
+    ghost KIND = { Supply };
+
+    const KIND: Kind = Kind::Supply;
+
+    #[tactic(auto, using(crate::proofs::Places::thousandths))]
+    fn write_amount<W: fmt::Write>(value: i64, f: &mut fmt::Formatter<W>) -> fmt::Result {
+        let volts = Decimal::<3> { parts: value };
+        write!(f, "{volts} V")
     }
 }
 
-// A minus sign where the amount is negative.
-fn sign_of(amount: i64) -> &'static str
-    ensures { result.now ≡ sign amount }
-{
-    if amount < 0 { "−" } else { "" }
-}
-
-// An amount in the unit of its kind.
+// An amount in the own unit of a kind of reading.
 #[derive(Clone, Copy)]
-pub struct Amount {
-    pub kind: Kind,
+pub struct Amount<T> {
     pub value: i64,
+    pub kind: PhantomData<T>,
 }
 
-impl Amount {
-    // What a level stands for.
-    pub fn of_level(kind: Kind, level: u32) -> Amount
-        ensures { result ≡ of_level kind level }
+impl<T: Certified> Amount<T> {
+    // So many of the kind's own unit.
+    pub fn new(value: i64) -> Amount<T>
+        ensures { result.value ≡ value }
     {
-        let zero = match kind {
-            Kind::Climate => ClimateReading::zero_level(),
-            Kind::Supply => SupplyReading::zero_level(),
-        };
         Amount {
-            kind,
-            value: level as i64 - zero as i64,
+            value,
+            kind: PhantomData,
         }
+    }
+
+    // What a level stands for.
+    pub fn of_level(level: u32) -> Amount<T>
+        ensures { result.value ≡ of_level T.OwnUnit.zero level }
+    {
+        Amount::new(level as i64 - T::zero_level() as i64)
     }
 }
 
-impl fmt::Display for Amount {
-    ghost output = { λ a. Some (amount a) };
+impl<T: Certified> fmt::Display for Amount<T> {
+    ghost output = { λ amount. Some (T.shown amount.value) };
 
     fn fmt<W: fmt::Write>(&self, f: &mut fmt::Formatter<W>) -> fmt::Result {
-        match self.kind {
-            Kind::Climate => {
-                let degrees = Degrees(self.value);
-                write!(f, "{degrees} °C")
-            }
-            Kind::Supply => {
-                let volts = Volts(self.value);
-                write!(f, "{volts} V")
-            }
-        }
+        T::write_amount(self.value, f)
     }
 }

@@ -1,5 +1,5 @@
 -- A batch of lines. Assumes nothing.
-use Rattle.std.specs.Prelude.{◌≡◌, ℕ, Bool, true, false, not, List, [], ◌∷◌, ◌++◌, length, Some, vec_items, count_by, Option, Result}
+use Rattle.std.specs.Prelude.{◌≡◌, ℕ, Bool, true, false, not, List, [], ◌∷◌, ◌++◌, length, Some, Ok, Err, vec_items, count_by, Option, Result}
 use Rattle.std.specs.Option.{option_map}
 use Rattle.certificates.specs.Certified.{Certified}
 use Rattle.certificates.specs.Checks.{certify_denied}
@@ -28,15 +28,15 @@ abbrev pub nothing : {X : Type 0} → Held X
 nothing = record { readings = []; bad = []; begun = false }
 
 -- what a line with this number makes of what is held
-abbrev pub taken : {X : Type 0} → Held X → ℕ → Line X → Held X
-taken h n line.Blank = h
-taken h n line.Header = record { readings = h.readings; bad = h.bad; begun = true }
-taken h n (line.Reading x) = record { readings = h.readings ++ x ∷ []; bad = h.bad; begun = true }
-taken h n (line.Bad f) = record { readings = h.readings; bad = h.bad ++ record { number = n; fault = f } ∷ []; begun = true }
+abbrev pub taken : {X : Type 0} → Held X → ℕ → Result (Line X) Fault → Held X
+taken h n (Ok line.Blank) = h
+taken h n (Ok line.Header) = record { readings = h.readings; bad = h.bad; begun = true }
+taken h n (Ok (line.Reading x)) = record { readings = h.readings ++ x ∷ []; bad = h.bad; begun = true }
+taken h n (Err f) = record { readings = h.readings; bad = h.bad ++ record { number = n; fault = f } ∷ []; begun = true }
 
 -- what the text of a line makes of it
 abbrev pub Takes : {X : Type 0} → (List ℕ → Result X Fault → Type 0) → Held X → ℕ → List ℕ → Held X → Type 0
-Takes {X} says h n bs after = (l : Line X) × SaysLine says (not h.begun) bs l × (after ≡ taken h n l)
+Takes {X} says h n bs after = (l : Result (Line X) Fault) × SaysLine says (not h.begun) bs l × (after ≡ taken h n l)
 
 -- why nothing is certified: some lines are no readings, or what a denial tells
 pub data Why : Type 0 where

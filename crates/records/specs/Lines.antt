@@ -27,8 +27,8 @@ NoDigit bs = (i : ℕ) → i < length bs → IsDigit (slice_index bs i) → ⊥
 
 -- what a line holds, where `says` tells what a line says that is neither blank nor a header:
 -- a header is the first line that is not blank, with no digit in it
-abbrev pub SaysLine : {X : Type 0} → (List ℕ → Result X Fault → Type 0) → Bool → List ℕ → Line X → Type 0
-SaysLine says first bs line.Blank = IsBlank bs
-SaysLine says first bs line.Header = IsFull bs × (first ≡ true) × NoDigit bs
-SaysLine says first bs (line.Reading x) = IsFull bs × (first ≡ true → HasDigit bs) × says bs (Ok x)
-SaysLine says first bs (line.Bad f) = IsFull bs × (first ≡ true → HasDigit bs) × says bs (Err f)
+abbrev pub SaysLine : {X : Type 0} → (List ℕ → Result X Fault → Type 0) → Bool → List ℕ → Result (Line X) Fault → Type 0
+SaysLine says first bs (Ok line.Blank) = IsBlank bs
+SaysLine says first bs (Ok line.Header) = IsFull bs × (first ≡ true) × NoDigit bs
+SaysLine says first bs (Ok (line.Reading x)) = IsFull bs × (first ≡ true → HasDigit bs) × says bs (Ok x)
+SaysLine says first bs (Err f) = IsFull bs × (first ≡ true → HasDigit bs) × says bs (Err f)

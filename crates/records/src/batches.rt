@@ -1,6 +1,8 @@
 // The lines of a batch of readings, and its certificate.
-ghost use Rattle.std.specs.Prelude.{◌≡◌, count_by, OnOk};
+ghost use Rattle.std.specs.Prelude.{◌≡◌, OnOk, Some};
 ghost use Rattle.denials.specs.Checks.{Decided};
+ghost use Rattle.records.specs.declared.batches.Refusal.TheVariants.{Denied};
+ghost use Rattle.records.specs.Words.{bad_line_says, refusal_says};
 ghost use Rattle.records.specs.Batches.{held, nothing, taken, Takes, why, stands, Drawn};
 
 use super::kinds::{Fault, Written};
@@ -8,6 +10,8 @@ use super::lines::{Line, read_line};
 use certificates::{Certificate, certify};
 use denials::Denial;
 use std::alloc::{AllocError, Global};
+use std::error::Error;
+use std::fmt;
 
 // A line that is no reading, by its number from 1.
 #[derive(Clone, Copy)]
@@ -16,11 +20,22 @@ pub struct BadLine {
     pub fault: Fault,
 }
 
+impl fmt::Display for BadLine {
+    ghost output = { λ bad. Some (bad_line_says bad) };
+
+    fn fmt<W: fmt::Write>(&self, f: &mut fmt::Formatter<W>) -> fmt::Result {
+        let number = self.number;
+        let fault = self.fault;
+        write!(f, "line {number}: {fault}")
+    }
+}
+
 // The readings of the lines so far, the lines that are none, and whether a line that is not blank has come.
 #[derive(Drop)]
 pub struct Batch<T> {
     readings: Vec<T>,
     bad: Vec<BadLine>,
+    // neither row tells it: a header goes into none
     begun: bool,
 }
 
@@ -32,11 +47,32 @@ pub struct Report {
 }
 
 // Why nothing is certified.
-#[derive(Clone, Copy)]
+#[derive(Clone, Copy, PartialEq, Eq, Debug)]
 pub enum Refusal {
     // some lines are no readings
     BadLines,
     Denied(Denial),
+}
+
+impl fmt::Display for Refusal {
+    ghost output = { λ refusal. Some (refusal_says refusal) };
+
+    fn fmt<W: fmt::Write>(&self, f: &mut fmt::Formatter<W>) -> fmt::Result {
+        match self {
+            Refusal::BadLines => write!(f, "some lines are no readings"),
+            Refusal::Denied(denial) => write!(f, "{denial}"),
+        }
+    }
+}
+
+impl Error for Refusal {}
+
+impl From<Denial> for Refusal {
+    ghost from_gives = { λ denial refusal. refusal ≡ Denied denial };
+
+    fn from(denial: Denial) -> Refusal {
+        Refusal::Denied(denial)
+    }
 }
 
 impl<T: Written + Drop> Batch<T> {
@@ -60,14 +96,14 @@ impl<T: Written + Drop> Batch<T> {
     }
 
     // Takes in what a line holds.
-    fn take(&mut self, number: u64, line: Line<T>) -> Result<(), AllocError>
+    fn take(&mut self, number: u64, line: Result<Line<T>, Fault>) -> Result<(), AllocError>
         ensures { OnOk result (held self.new ≡ taken (held self.old) number line) }
     {
         match line {
-            Line::Blank => return Ok(()),
-            Line::Header => {}
-            Line::Reading(reading) => self.readings.push(reading)?,
-            Line::Bad(fault) => self.bad.push(BadLine { number, fault })?,
+            Ok(Line::Blank) => return Ok(()),
+            Ok(Line::Header) => {}
+            Ok(Line::Reading(reading)) => self.readings.push(reading)?,
+            Err(fault) => self.bad.push(BadLine { number, fault })?,
         }
         self.begun = true;
         Ok(())
@@ -87,25 +123,10 @@ impl<T: Written + Drop> Batch<T> {
         if !self.bad.is_empty() {
             return Err(Refusal::BadLines);
         }
-        match certify(self.readings.as_slice(), span, questions) {
-            Ok(certificate) => Ok(Report {
-                certificate,
-                low: count_low(self.readings.as_slice()),
-            }),
-            Err(denial) => Err(Refusal::Denied(denial)),
-        }
+        let readings = self.readings.as_slice();
+        Ok(Report {
+            certificate: certify(readings, span, questions)?,
+            low: readings.iter().filter(|reading| reading.is_low()).count(),
+        })
     }
-}
-
-// How many readings lie below the one that has level 0.
-fn count_low<T: Written>(readings: &[T]) -> usize
-    ensures { result ≡ count_by T.Written.low readings.now }
-{
-    let mut count = 0;
-    for reading in readings {
-        if reading.is_low() {
-            count += 1;
-        }
-    }
-    count
 }

@@ -1,10 +1,13 @@
 // The kinds of readings, and what a line says in each.
-ghost use Rattle.std.specs.Prelude.{◌≡◌, ℕ, Bool, false, List, Result, MatchOption};
+ghost use Rattle.std.specs.Prelude.{◌≡◌, ℕ, Bool, false, List, Result, MatchOption, Some};
 ghost use Rattle.records.specs.declared.kinds.Fault.{Fault as Why};
+ghost use Rattle.records.specs.Words.{fault_says};
 ghost use Rattle.records.specs.Saying.{Lacks, AtComma, SaysClimate, SaysSupply, too_cold};
 
-use super::numbers::{whole_i16, whole_u16, whole_u32};
+use super::numbers::whole;
 use counters::{ClimateReading, OwnUnit, SupplyReading};
+use std::error::Error;
+use std::fmt;
 
 // Why a line is no reading.
 #[derive(Clone, Copy, PartialEq, Eq, Debug)]
@@ -18,6 +21,23 @@ pub enum Fault {
     // the millivolts are no whole number up to 65535
     Millivolts,
 }
+
+impl fmt::Display for Fault {
+    ghost output = { λ fault. Some (fault_says fault) };
+
+    fn fmt<W: fmt::Write>(&self, f: &mut fmt::Formatter<W>) -> fmt::Result {
+        f.write_str(match self {
+            Fault::NoComma => "there is no comma between a minute and a temperature",
+            Fault::Minute => "the minute is no whole number up to 4,294,967,295",
+            Fault::Temperature => {
+                "the temperature is no whole number of hundredths of a degree from −32768 to 32767"
+            }
+            Fault::Millivolts => "the millivolts are no whole number up to 65535",
+        })
+    }
+}
+
+impl Error for Fault {}
 
 // A kind of reading that can be read from a line of text.
 pub trait Written: OwnUnit + Sized {
@@ -42,18 +62,10 @@ impl Written for ClimateReading {
     ghost low = { λ r. too_cold r.temperature };
 
     fn read(text: &str) -> Result<ClimateReading, Fault> {
-        let Some((minute, temperature)) = at_comma(text) else {
-            return Err(Fault::NoComma);
-        };
-        let Some(minute) = whole_u32(minute) else {
-            return Err(Fault::Minute);
-        };
-        let Some(temperature) = whole_i16(temperature) else {
-            return Err(Fault::Temperature);
-        };
+        let (minute, temperature) = at_comma(text).ok_or(Fault::NoComma)?;
         Ok(ClimateReading {
-            minute,
-            temperature,
+            minute: whole(minute).ok_or(Fault::Minute)?,
+            temperature: whole(temperature).ok_or(Fault::Temperature)?,
         })
     }
 
@@ -68,10 +80,8 @@ impl Written for SupplyReading {
     ghost low = { λ _. false };
 
     fn read(text: &str) -> Result<SupplyReading, Fault> {
-        match whole_u16(text) {
-            Some(millivolts) => Ok(SupplyReading { millivolts }),
-            None => Err(Fault::Millivolts),
-        }
+        let millivolts = whole(text).ok_or(Fault::Millivolts)?;
+        Ok(SupplyReading { millivolts })
     }
 
     fn is_low(&self) -> bool {

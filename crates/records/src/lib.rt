@@ -9,4 +9,4 @@ mod numbers;
 pub use batches::{BadLine, Batch, Refusal, Report};
 pub use kinds::{Fault, Written};
 pub use lines::{Line, read_line};
-pub use numbers::whole_u32;
+pub use numbers::whole;

@@ -4,29 +4,25 @@ ghost use Rattle.records.specs.Lines.{IsBlank, IsFull, HasDigit, NoDigit, SaysLi
 
 use super::kinds::{Fault, Written};
 
-// What a line holds.
+// What a line holds that has no fault.
 #[derive(Drop)]
 pub enum Line<T> {
     Blank,
     Header,
     Reading(T),
-    Bad(Fault),
 }
 
 // Reads a line. The first line that is not blank is a header where it has no digit in it.
-pub fn read_line<T: Written>(text: &str, first: bool) -> Line<T>
+pub fn read_line<T: Written>(text: &str, first: bool) -> Result<Line<T>, Fault>
     ensures { SaysLine T.Written.says first text.now result }
 {
     if is_blank(text) {
-        return Line::Blank;
+        return Ok(Line::Blank);
     }
     if first && !has_digit(text) {
-        return Line::Header;
+        return Ok(Line::Header);
     }
-    match T::read(text) {
-        Ok(reading) => Line::Reading(reading),
-        Err(fault) => Line::Bad(fault),
-    }
+    Ok(Line::Reading(T::read(text)?))
 }
 
 // Whether a line has nothing but white space.
@@ -40,10 +36,5 @@ fn is_blank(text: &str) -> bool
 fn has_digit(text: &str) -> bool
     ensures { MatchBool result (HasDigit text.now) (NoDigit text.now) }
 {
-    for byte in text.as_bytes() {
-        if byte.is_ascii_digit() {
-            return true;
-        }
-    }
-    false
+    text.as_bytes().iter().any(u8::is_ascii_digit)
 }

@@ -1,19 +1,16 @@
-use Rattle.std.proofs.Common.{Some, sym, subst, w16, SFits, rules}
-use Rattle.std.proofs.lemmas.Int.{to_z-of_z}
-use Rattle.records.specs.Saying.{WritesSigned}
+use Rattle.std.proofs.Common.{rules}
+use Rattle.records.proofs.Faults.{no_minute, no_temperature}
 use Rattle.records.proofs.kinds.ClimateReadingWritten.read.Goals as goal
 
-pub returns-in_default : goal.returns-in_default
-returns-in_default c = c.in_default.ensures
+pub returns-in_err-ok_or : goal.returns-in_err-ok_or
+returns-in_err-ok_or c =
+    let comma = rw c.in_ok-minute.ensures.ok_part at c.at_comma.ensures in
+    let none = rw c.in_err-ok_or.ensures.ok_part at c.whole.ensures in
+    no_minute _ _ _ _ comma (none.0, none.2, none.3.0) (search rules)
 
-pub returns-in_default-whole_u32 : goal.returns-in_default-whole_u32
-returns-in_default-whole_u32 c = (c.in-Some.minute.now, c.in-Some.temperature.now, c.in-Some.ensures, c.in_default-whole_u32.ensures)
-
-pub returns-in_default-whole_i16 : goal.returns-in_default-whole_i16
-returns-in_default-whole_i16 c =
-    (c.in-Some.minute.now, c.in-Some.temperature.now, c.in-Some-whole_u32.minute, c.in-Some.ensures, c.in-Some-whole_u32.ensures, c.in_default-whole_i16.ensures)
-
-pub returns : goal.returns
-returns c =
-    let fits : SFits w16 c.in-Some-whole_i16.temperature = search rules in
-    (c.in-Some.minute.now, c.in-Some.temperature.now, c.in-Some.ensures, c.in-Some-whole_u32.ensures, subst (λ z. WritesSigned w16 c.in-Some.temperature.now (Some z)) (sym (to_z-of_z w16 _ fits)) c.in-Some-whole_i16.ensures)
+pub returns-in_err-ok_or-2 : goal.returns-in_err-ok_or-2
+returns-in_err-ok_or-2 c =
+    let comma = rw c.in_ok-minute.ensures.ok_part at c.at_comma.ensures in
+    let some = rw c.in_ok-ok_or.ensures.ok_part at c.whole.ensures in
+    let none = rw c.in_err-ok_or-2.ensures.ok_part at c.whole-2.ensures in
+    no_temperature _ _ _ _ _ comma (some.0, some.1, some.2.0) (none.0, none.2, none.3.0) (search rules)
