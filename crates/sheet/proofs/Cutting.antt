@@ -7,20 +7,21 @@ use Rattle.jobs.specs.Lines.{on_first, lines_of, line_of}
 pub record Cut (sheet piece rest : List ℕ) : Type 0 where
   pub some : 0 < length piece
   pub parts : length piece + length rest ≡ length sheet
+  pub line : line_of sheet ≡ line_of piece
   pub lines : lines_of sheet ≡ line_of piece ∷ lines_of rest
   pub ends : 0 < length rest → length (line_of piece) + 1 ≤ length piece
 
 first_line : (b : ℕ) (bs rest : List ℕ) (i : ℕ) → length (b ∷ bs) ≡ min (i + 1) (length (b ∷ (bs ++ rest))) → IsFirstMatchOrLen (λ y. eqb y 10) (b ∷ (bs ++ rest)) i → Cut (b ∷ (bs ++ rest)) (b ∷ bs) rest
 first_line b [] rest zero n first =
     let end = first.1 (omega arith) b in
-    record { some = omega arith; parts = omega arith; lines = rw end refl; ends = λ _. rw end (omega arith) }
+    record { some = omega arith; parts = omega arith; line = rw end refl; lines = rw end refl; ends = λ _. rw end (omega arith) }
 first_line b (c ∷ cs) rest zero n first = absurd (let z : ⊥ = omega arith in z)
-first_line b [] [] (suc j) n first = record { some = omega arith; parts = omega arith; lines = rw (first.0 0 b (omega arith) (omega arith)) refl; ends = λ some. absurd (let z : ⊥ = omega arith in z) }
+first_line b [] [] (suc j) n first = record { some = omega arith; parts = omega arith; line = refl; lines = rw (first.0 0 b (omega arith) (omega arith)) refl; ends = λ some. absurd (let z : ⊥ = omega arith in z) }
 first_line b [] (r ∷ rs) (suc j) n first = absurd (let z : ⊥ = omega arith in z)
 first_line b (c ∷ cs) rest (suc j) n first =
     let none = first.0 0 b (omega arith) (omega arith) in
     let later = first_line c cs rest j (omega arith) (λ k d _ lt. first.0 (suc k) d (omega arith) (omega arith), λ lt d. first.1 (omega arith) d) in
-    record { some = omega arith; parts = omega (arith, later.parts); lines = rw none (ap (on_first b) later.lines); ends = λ some. rw none (omega (arith, later.ends some)) }
+    record { some = omega arith; parts = omega (arith, later.parts); line = rw none (ap (λ l. b ∷ l) later.line); lines = rw none (ap (on_first b) later.lines); ends = λ some. rw none (omega (arith, later.ends some)) }
 
 -- the piece up to the first byte 10, or to the sheet's end, is the first line with its end
 pub piece_is_line : (sheet piece rest : List ℕ) (i : ℕ) → sheet ≡ piece ++ rest → length piece ≡ min (i + 1) (length sheet) → IsFirstMatchOrLen (λ y. eqb y 10) sheet i → 0 < length sheet → Cut sheet piece rest

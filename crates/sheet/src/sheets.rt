@@ -48,11 +48,13 @@ fn print_lines(sheet: &[u8], out: &mut [u8]) -> usize
     ensures row { out.new ≡ begun (sheet_prints sheet.now) out.old }
 {
     let mut set = None;
+    let mut cursor = Cursor { sheet, at: 0 };
     let mut written = 0;
     for (index, line) in sheet.split_inclusive(|byte| *byte == b'\n').enumerate() {
         let number = index as u64 + 1;
-        let reply = enter(&mut set, job_at(Cursor { sheet: line, at: 0 }), number);
+        let reply = enter(&mut set, job_at(cursor), number);
         written += print_reply(reply, number, &mut out[written..]);
+        cursor = cursor.skip(line.len());
     }
     written
 }

@@ -2,6 +2,7 @@ use Rattle.std.proofs.Common.{◌≡◌, ◌+◌, ◌*◌, ◌<◌, ◌≤◌, �
 use Rattle.std.specs.Iterator.Adapters.{enumerate_source, enumerate_count}
 use Rattle.std.specs.Slice.Iter.{split_inclusive_rest}
 use Rattle.jobs.specs.Lines.{lines_of}
+use Rattle.words.specs.Borrowed.{rest}
 use Rattle.words.specs.Writing.{begun}
 use Rattle.sheet.specs.Printing.{printed, sheet_prints}
 use Rattle.sheet.specs.Setting.{held}
@@ -13,6 +14,7 @@ abbrev pub invariant-loop-index : goal.invariant-loop-index
 invariant-loop-index l = record {
   can : (goal.iterator-loop-index).can_next l.index-iterator;
   ends : (goal.iterator-loop-index).is_finite l.index-iterator;
+  here : rest l.cursor ≡ split_inclusive_rest (enumerate_source l.index-iterator);
   within : l.written ≤ length l.out;
   row : l.out ≡ begun (take l.written l.out) l.initial.out;
   prints : take l.written l.out ++ printed (enumerate_count l.index-iterator + 1) (held l.set) (lines_of (split_inclusive_rest (enumerate_source l.index-iterator))) ≡ sheet_prints l.sheet;
