@@ -12,7 +12,7 @@ use Rattle.logs.proofs.Gaps.{span_at_end}
 use Rattle.plans.specs.declared.gaps.Gap.{Gap}
 use Rattle.plans.specs.Gaps.{first_inside}
 use Rattle.plans.specs.Lawful.{inside_askable}
-use Rattle.plans.proofs.Neighbours.{gap_to, at_gap}
+use Rattle.plans.proofs.Neighbours.{gap_at, at_gap}
 
 -- every argument up to x is in the log
 abbrev pub KnownTo : List Point → ℕ → Type 0
@@ -42,6 +42,15 @@ has-place [] i h = absurd (let z : ⊥ = omega arith in z)
 has-place (p ∷ ps) zero h = cond-true _ _ _ (eq-eqb p.at p.at refl)
 has-place (p ∷ ps) (suc i) h = let x = (nth ps i).at in cond_both (eqb x p.at) true (has x ps) (λ b. b ≡ true) (λ e. refl) (λ e. has-place ps i (omega arith))
 
+-- a log has a point, and begins at 0
+some_points : (log : List Point) → IsLog (span_of log) log → 0 < length log
+some_points [] is = absurd is
+some_points (p ∷ ps) is = omega arith
+
+begins : (log : List Point) → IsLog (span_of log) log → (nth log 0).at ≡ 0
+begins [] is = absurd is
+begins (p ∷ ps) is = is.0
+
 -- what the first argument inside a gap tells of it
 abbrev Tells : Gap → Option ℕ → Type 0
 Tells g o = MatchOption o (inner_of g.from g.to ≡ 0) (λ x. (x ≡ g.from.at + 1) × (0 < inner_of g.from g.to))
@@ -52,26 +61,41 @@ inside_tells g o e =
     subst (Tells g) (sym e)
     (cond_both (ltb 0 inner) (Some (g.from.at + 1)) None (Tells g) (λ t. (refl, ltb-true 0 inner t)) (λ f. omega (arith, ltb-false 0 inner f)))
 
-module _ (log : List Point) (i : ℕ) (is : IsLog (span_of log) log) (some : 0 < i) (known : KnownTo log (nth log (i - 1)).at) where
-  -- where a gap has an argument inside, the first of those is the lowest unknown one
-  pub lowest_inside : i < length log → (x : ℕ) → Some x ≡ first_inside (gap_to log i) → Some x ≡ lowest_unknown log
-  lowest_inside h y e =
-      let x = (nth log (i - 1)).at in
-      let t = inside_tells (gap_to log i) (Some y) e in
-      let ask : Askable (span_of log) log (x + 1) = at_gap log i some h _ (inside_askable (span_of log) log is) (x + 1) (omega arith, omega (arith, t.1)) in
+module _ (log : List Point) (is : IsLog (span_of log) log) where
+  -- where all before the gap at place i is in the log and the gap has an argument inside, the first of those is the lowest unknown one
+  lowest_inside : (i : ℕ) → suc i < length log → KnownTo log (nth log i).at → (x : ℕ) → Some x ≡ first_inside (gap_at log i) → Some x ≡ lowest_unknown log
+  lowest_inside i h known y e =
+      let x = (nth log i).at in
+      let t = inside_tells (gap_at log i) (Some y) e in
+      let ask : Askable (span_of log) log (x + 1) = at_gap log i h _ (inside_askable (span_of log) log is) (x + 1) (omega arith, omega (arith, t.1)) in
       ap Some t.0 ∙ sym (after_known log x 1 (span_of log - 1) known (askable_unknown log (x + 1) ask) (omega arith) (omega (arith, ask.0.1)))
 
   -- where it has none, one argument more is in the log
-  pub known_more : i < length log → None ≡ first_inside (gap_to log i) → KnownTo log (nth log (i + 1 - 1)).at
-  known_more h e =
-      let t = inside_tells (gap_to log i) None e in
-      subst (λ k. KnownTo log (nth log k).at) {x = i} {y = i + 1 - 1} (omega arith)
-      (λ y l.
+  known_more : (i : ℕ) → suc i < length log → KnownTo log (nth log i).at → None ≡ first_inside (gap_at log i) → KnownTo log (nth log (suc i)).at
+  known_more i h known e y l =
+      let t = inside_tells (gap_at log i) None e in
       ⊎_elim
-      (λ (below : y < (nth log i).at). known y (omega (arith, t)))
-      (λ (above : (nth log i).at ≤ y). subst (λ x. has x log ≡ true) {x = (nth log i).at} {y = y} (omega arith) (has-place log i h))
-      (cases_lt y (nth log i).at))
+      (λ (below : y < (nth log (suc i)).at). known y (omega (arith, t)))
+      (λ (above : (nth log (suc i)).at ≤ y). subst (λ x. has x log ≡ true) {x = (nth log (suc i)).at} {y = y} (omega arith) (has-place log (suc i) h))
+      (cases_lt y (nth log (suc i)).at)
 
-  -- at the end no argument is unknown
-  pub lowest_none : length log ≡ i → None ≡ lowest_unknown log
-  lowest_none e = sym (none_unknown log (nth log (i - 1)).at 1 (span_of log - 1) known (omega (arith, ap (λ k. (nth log (k - 1)).at) e, span_at_end log origin is)))
+  -- at first argument 0 is
+  known_first : KnownTo log (nth log 0).at
+  known_first y l =
+      subst (λ x. has x log ≡ true) {x = (nth log 0).at} {y = y} (omega (arith, begins log is)) (has-place log 0 (some_points log is))
+
+  -- after gaps that have none inside, every argument so far
+  known_to : (i : ℕ) → i < length log → ((k : ℕ) → k < i → None ≡ first_inside (gap_at log k)) → KnownTo log (nth log i).at
+  known_to zero h none = known_first
+  known_to (suc i) h none = known_more i h (known_to i (omega arith) (λ k l. none k (omega arith))) (none i (omega arith))
+
+  -- the first inside the first gap that has one is the lowest unknown argument
+  pub found_lowest : (i : ℕ) → suc i < length log → ((k : ℕ) → k < i → None ≡ first_inside (gap_at log k)) → (x : ℕ) → Some x ≡ first_inside (gap_at log i) → Some x ≡ lowest_unknown log
+  found_lowest i h none x e = lowest_inside i h (known_to i (omega arith) none) x e
+
+  -- where no gap has one, no argument is unknown
+  pub none_lowest : ((k : ℕ) → suc k < length log → None ≡ first_inside (gap_at log k)) → None ≡ lowest_unknown log
+  none_lowest none =
+      let last = length log - 1 in
+      let known = known_to last (omega (arith, some_points log is)) (λ k l. none k (omega arith)) in
+      sym (none_unknown log (nth log last).at 1 (span_of log - 1) known (omega (arith, span_at_end log origin is)))

@@ -1,14 +1,12 @@
--- The widest gap is the widest, and a loop over the gaps finds it. Assumes nothing.
-use Rattle.std.proofs.Common.{◌≡◌, ℕ, ◌+◌, ◌-◌, ◌<◌, ◌≤◌, ltb, List, [], ◌∷◌, ◌++◌, length, drop, Some, None, fold, Option, sym, refl, ap, ◌∙◌, append_assoc, arith, MatchOption}
+-- The widest gap is the widest. Assumes nothing.
+use Rattle.std.proofs.Common.{◌≡◌, ℕ, ◌<◌, ◌≤◌, ltb, List, [], ◌∷◌, ◌++◌, Some, None, fold, Option, refl, ap, ◌∙◌, append_assoc, arith, MatchOption}
 use Rattle.std.specs.List.{AllByRecursion}
 use Rattle.std.proofs.ByRecursion.{All-weaker, All-push}
 use Rattle.std.proofs.lemmas.List.{append-nil}
 use Rattle.std.proofs.lemmas.Bool.{cond_both, ltb-true, ltb-false}
-use Rattle.tables.specs.declared.points.Point.{Point}
 use Rattle.plans.specs.declared.gaps.Gap.{Gap}
 use Rattle.plans.specs.Gaps.{gaps, width_of}
-use Rattle.plans.specs.Widest.{wider, widest, Widest, WidestIsWidest}
-use Rattle.plans.proofs.Neighbours.{gap_to, gaps_more, gaps_none}
+use Rattle.plans.specs.Widest.{wider, Widest, WidestIsWidest}
 
 -- o is what the widest gap of a row should be
 abbrev Best : List Gap → Option Gap → Type 0
@@ -55,15 +53,3 @@ best_all gs (g ∷ hs) o b = rw (← append_assoc gs (g ∷ []) hs) (best_all (g
 -- the law of the widest gap
 pub widest_is_widest : WidestIsWidest
 widest_is_widest log = best_all [] (gaps log) None tt
-
--- the widest gap before place i: with the gaps to come it gives the widest of all
-abbrev pub SoFar : List Point → ℕ → Option Gap → Type 0
-SoFar log i best = fold wider best (gaps (drop (i - 1) log)) ≡ widest (gaps log)
-
--- one gap more
-pub so_far_more : (log : List Point) (i : ℕ) (best : Option Gap) → 0 < i → i < length log → SoFar log i best → SoFar log (i + 1) (wider best (gap_to log i))
-so_far_more log i best some h s = ap (fold wider best) (sym (gaps_more log i some h)) ∙ s
-
--- no gap more
-pub so_far_all : (log : List Point) (i : ℕ) (best : Option Gap) → length log ≤ i → SoFar log i best → best ≡ widest (gaps log)
-so_far_all log i best h s = ap (fold wider best) (sym (gaps_none log i h)) ∙ s

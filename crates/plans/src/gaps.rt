@@ -17,7 +17,7 @@ impl Gap {
     {
         let inner = self.to.at.saturating_sub(self.from.at).saturating_sub(1);
         let rise = self.to.value.saturating_sub(self.from.value);
-        inner as u64 * rise as u64
+        u64::from(inner) * u64::from(rise)
     }
 
     // The argument halfway, rounded down.
@@ -32,10 +32,6 @@ impl Gap {
         ensures { result ≡ first_inside self.now }
     {
         let last = self.to.at.saturating_sub(1);
-        if self.from.at < last {
-            Some(self.from.at + 1)
-        } else {
-            None
-        }
+        (self.from.at < last).then(|| self.from.at + 1)
     }
 }

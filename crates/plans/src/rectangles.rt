@@ -1,5 +1,6 @@
 // The widest rectangle: asks in the middle of the widest gap.
 ghost use Rattle.std.specs.Prelude.{◌≡◌};
+ghost use Rattle.logs.specs.Points.{points};
 ghost use Rattle.plans.specs.Gaps.{gaps};
 ghost use Rattle.plans.specs.Lawful.{widest_is_lawful};
 ghost use Rattle.plans.specs.Widest.{wider, widest, widest_rectangle, WidestIsWidest};
@@ -8,7 +9,6 @@ use super::asking::Plan;
 use super::fallback::lowest_unknown;
 use super::gaps::Gap;
 use logs::Log;
-use tables::Point;
 
 #[derive(Clone, Copy)]
 pub struct WidestRectangle;
@@ -28,35 +28,25 @@ impl Plan for WidestRectangle {
     ghost lawful = { λ _. widest_is_lawful };
 
     fn next(&mut self, log: &Log) -> Option<u32> {
-        match widest_of(log.points()) {
-            Some(gap) => Some(gap.middle()),
-            None => lowest_unknown(log),
-        }
+        widest_of(log)
+            .map(|gap| gap.middle())
+            .or_else(|| lowest_unknown(log))
     }
 }
 
 // The widest gap between neighbouring points, the lowest on a tie; none where every gap has width 0.
-fn widest_of(points: &[Point]) -> Option<Gap>
-    ensures { result ≡ widest (gaps points.now) }
+fn widest_of(log: &Log) -> Option<Gap>
+    ensures { result ≡ widest (gaps (points log.now)) }
 {
-    let mut best = None;
-    for i in 1..points.len() {
-        let gap = Gap {
-            from: points[i - 1],
-            to: points[i],
-        };
-        best = wider(best, gap);
-    }
-    best
+    log.points()
+        .array_windows::<2>()
+        .fold(None, |best, &[from, to]| wider(best, Gap { from, to }))
 }
 
 // The gap if it is wider than the best so far, else the best so far.
 fn wider(best: Option<Gap>, gap: Gap) -> Option<Gap>
     ensures { result ≡ wider best gap }
 {
-    let width = match best {
-        Some(widest) => widest.width(),
-        None => 0,
-    };
+    let width = best.map_or(0, |widest| widest.width());
     if gap.width() > width { Some(gap) } else { best }
 }

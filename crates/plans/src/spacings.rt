@@ -36,10 +36,7 @@ impl Plan for EqualSpacing {
     ghost lawful = { λ p. spacing_is_lawful p.questions };
 
     fn next(&mut self, log: &Log) -> Option<u32> {
-        match first_stop(log, self.questions) {
-            Some(at) => Some(at),
-            None => lowest_unknown(log),
-        }
+        first_stop(log, self.questions).or_else(|| lowest_unknown(log))
     }
 }
 
@@ -47,15 +44,11 @@ impl Plan for EqualSpacing {
 fn first_stop(log: &Log, questions: u32) -> Option<u32>
     ensures { result ≡ first_unknown (points log.now) (stops (span_of (points log.now)) questions) }
 {
-    let span = log.span() as u64;
-    let parts = questions as u64 + 1;
-    for j in 1..parts {
-        let at = (j * span / parts) as u32;
-        if is_unknown(log, at) {
-            return Some(at);
-        }
-    }
-    None
+    let span = u64::from(log.span());
+    let parts = u64::from(questions) + 1;
+    (1..parts)
+        .map(|j| (j * span / parts) as u32)
+        .find(|at| is_unknown(log, *at))
 }
 
 // Whether the argument is an inner one and not in the log.

@@ -1,13 +1,19 @@
-use Rattle.std.proofs.Common.{sym, arith}
+use Rattle.std.proofs.Common.{◌+◌, ◌*◌, ◌/◌, rules, sym, ◌∙◌, arith}
+use Rattle.std.proofs.lemmas.Iterator.{YieldsList-from_range, YieldsList-from_map}
+use Rattle.std.proofs.lemmas.Iterator.Adapters.{option_map_id}
+use Rattle.std.proofs.lemmas.Iterator.Search.{find_from_yields_List}
+use Rattle.tables.specs.Log.{span_of}
+use Rattle.tables.specs.Plan.{unknown, stops}
 use Rattle.logs.specs.Points.{points}
-use Rattle.plans.proofs.Cuts.{stop_within, stop_taken, stop_passed}
+use Rattle.plans.proofs.Cuts.{found_first}
 use Rattle.plans.proofs.spacings.first_stop.Goals as goal
 
-pub overflow_cast-at : goal.overflow_cast-at
-overflow_cast-at c = omega (arith, stop_within c.span-span.result _ c.loop-j.j c.loop-j-test.true)
-
-pub returns-then-is_unknown : goal.returns-then-is_unknown
-returns-then-is_unknown c = stop_taken (points c.args.log.now) _ _ c.loop-j.j _ (omega arith) c.loop-j.invariant (sym c.if-is_unknown.ensures)
-
-pub loop-j-preserved : goal.loop-j-preserved
-loop-j-preserved c = stop_passed (points c.args.log.now) _ _ c.loop-j.j _ (omega arith) c.loop-j.invariant (sym c.if-is_unknown.ensures)
+pub returns : goal.returns
+returns c =
+    let log = points c.args.log.now in
+    let n = c.args.questions in
+    sym (option_map_id c.find.result)
+    ∙ find_from_yields_List (unknown log) _ _ _ c.find.ensures.ran
+    (YieldsList-from_map _ (λ j. j * span_of log / (n + 1)) (YieldsList-from_range 1 (n + 1) n (cc) (omega arith)) c.map.ensures.closure (λ x r q k. search rules))
+    (λ x b q k. search rules)
+    ∙ found_first log (stops (span_of log) n)
