@@ -13,7 +13,7 @@ use Rattle.jobs.specs.Jobs.{Job, diagonal, table, spacing, widest, before, numbe
 
 -- none is not some
 none_some : {X : Type 0} {x : X} → ◌≡◌ {A = Option X} None (Some x) → ⊥
-none_some e = let z : ◌≡◌ {A = ℕ} 0 1 = cc in omega arith
+none_some e = cc
 
 -- a number that fits a sheet
 abbrev Small : ℕ → Type 0
@@ -61,8 +61,8 @@ spaced_numbers [] ns e = let z : ns ≡ [] = cc in rw z (refl, tt)
 spaced_numbers (w ∷ ws) ns e = go (number_of w) (numbers_of ws) refl refl e (spaced_numbers ws)
   where
     go : (o : Option ℕ) (os : Option (List ℕ)) → number_of w ≡ o → numbers_of ws ≡ os → before o os ≡ Some ns → ((ms : List ℕ) → numbers_of ws ≡ Some ms → (join_tail ws ≡ spaced ms) × AllByRecursion Small ms) → (join_tail (w ∷ ws) ≡ spaced ns) × AllByRecursion Small ns
-    go None os p q r h = let z : ◌≡◌ {A = ℕ} 0 1 = cc in absurd (let y : ⊥ = omega arith in y)
-    go (Some n) None p q r h = let z : ◌≡◌ {A = ℕ} 0 1 = cc in absurd (let y : ⊥ = omega arith in y)
+    go None os p q r h = absurd cc
+    go (Some n) None p q r h = absurd cc
     go (Some n) (Some ms) p q r h =
         let is : ns ≡ n ∷ ms = cc in
         let d = (numbers_are_decimal w n).0 p in
@@ -143,10 +143,10 @@ formed_asks c ns small job e = go (eqb c 100) (eqb c 116) (eqb c 101) (eqb c 119
     go false false false false p q r v h = absurd (none_some h)
 
 -- a letter word is one byte
-one_byte : (w : List ℕ) → is_letter w ≡ true → w ≡ get_or w 0 0 ∷ []
-one_byte [] e = let z : ◌≡◌ {A = ℕ} 0 1 = cc in absurd (let y : ⊥ = omega arith in y)
+pub one_byte : (w : List ℕ) → is_letter w ≡ true → w ≡ get_or w 0 0 ∷ []
+one_byte [] e = absurd cc
 one_byte (b ∷ []) e = refl
-one_byte (b ∷ (c ∷ cs)) e = let z : ◌≡◌ {A = ℕ} 0 1 = cc in absurd (let y : ⊥ = omega arith in y)
+one_byte (b ∷ (c ∷ cs)) e = absurd cc
 
 -- what words ask for is asked for by the words joined
 words_ask : (words : List (List ℕ)) (job : Job) → job_in words ≡ Some job → (join words ≡ asking job) × Fits job

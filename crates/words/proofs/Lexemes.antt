@@ -25,7 +25,7 @@ word_fits w rest at l front = go (is_letter w) refl (is_number w) refl
     go : (a : Bool) → is_letter w ≡ a → (b : Bool) → is_number w ≡ b → cond a (Some (letter w at)) (cond b (Some (number w at)) None) ≡ Some l → Fits rest at l
     go true t b n e = let same : letter w at ≡ l = cc in rw (← same) (refl, front, t)
     go false t true n e = let same : number w at ≡ l = cc in rw (← same) (refl, front, n)
-    go false t false n e = let z : ◌≡◌ {A = ℕ} 0 1 = cc in absurd (let none : ⊥ = omega arith in none)
+    go false t false n e = absurd cc
 
 lexed_fits : (rest : List ℕ) (at : ℕ) (l : Lexeme) → lexed rest at ≡ Some l → Fits rest at l
 lexed_fits [] at l e = let same : line_end [] at ≡ l = cc in rw (← same) (refl, refl, inl refl)

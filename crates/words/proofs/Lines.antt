@@ -1,42 +1,20 @@
 -- Printed lines, number by number. Assumes nothing.
-use Rattle.std.proofs.Common.{◌≡◌, ℕ, zero, suc, ◌+◌, ◌-◌, ◌*◌, ◌^◌, ◌<◌, ◌≤◌, true, false, ◌&&◌, ltb, leb, List, [], ◌∷◌, ◌++◌, length, get_or, take, drop, set, decimal, sym, refl, ap, ◌∙◌, append_assoc, append-nil, arith, length-append}
-use native.Mathlib.Nat.{pow-le-pow_right}
+use Rattle.std.proofs.Common.{◌≡◌, ℕ, ◌+◌, ◌-◌, ◌*◌, ◌^◌, ◌<◌, ◌≤◌, true, ltb, leb, List, [], ◌∷◌, ◌++◌, length, get_or, take, drop, set, decimal, sym, refl, ap, ◌∙◌, append_assoc, append-nil, arith, length-append}
 use Rattle.std.proofs.lemmas.Fmt.{length-decimal-le}
-use Rattle.std.proofs.lemmas.List.{at_drop_more, at_drop_all, take_more}
-use Rattle.std.proofs.lemmas.Bool.{and_parts, ltb-true, leb-true, lt-ltb, le-ltb}
+use Rattle.std.proofs.lemmas.List.{take_more}
+use Rattle.std.proofs.lemmas.List.Recursion.{and_at}
+use Rattle.std.proofs.lemmas.Bool.{and_parts, ltb-true, leb-true}
 use borrow.Rule.Slice.PartMut.{put_mid}
 use Rattle.words.proofs.Beginning.{begun_push, begun_after}
 use Rattle.words.specs.Writing.{begun, spaced, line_bytes, all_short, has_room}
 
--- a number below 10^k has at most k digits
-pub length_decimal_short : (k n : ℕ) → 0 < k → k ≤ 19 → n < 10 ^ k → length (decimal n) ≤ k
-length_decimal_short k n some few lt =
-    let below : 10 ^ k ≤ 10 ^ 19 = pow-le-pow_right (let ten : 0 < 10 = omega arith in ten) few in
-    length-decimal-le k n some lt (omega arith)
-
 -- a number below 10^16 has at most 16 digits
 pub short_decimal : (n : ℕ) → n < 10 ^ 16 → length (decimal n) ≤ 16
-short_decimal n lt = length_decimal_short 16 n (omega arith) (omega arith) lt
-
--- whether all are short, from a place on
-pub short_more : (ns : List ℕ) (i : ℕ) → i < length ns → get_or ns i 0 < 10 ^ 16 → all_short (drop i ns) ≡ all_short (drop (i + 1) ns)
-short_more ns i lt small =
-    let e : all_short (drop i ns) ≡ (ltb (get_or ns i 0) (10 ^ 16) && all_short (drop (i + 1) ns)) = at_drop_more all_short ns i 0 lt in
-    e ∙ ap (λ b. b && all_short (drop (i + 1) ns)) (lt-ltb (get_or ns i 0) (10 ^ 16) small)
-
-pub short_stops : (ns : List ℕ) (i : ℕ) → i < length ns → 10 ^ 16 ≤ get_or ns i 0 → all_short (drop i ns) ≡ false
-short_stops ns i lt large =
-    let e : all_short (drop i ns) ≡ (ltb (get_or ns i 0) (10 ^ 16) && all_short (drop (i + 1) ns)) = at_drop_more all_short ns i 0 lt in
-    e ∙ ap (λ b. b && all_short (drop (i + 1) ns)) (le-ltb (get_or ns i 0) (10 ^ 16) large)
-
-pub short_all : (ns : List ℕ) (i : ℕ) → length ns ≤ i → all_short (drop i ns) ≡ true
-short_all ns i le = at_drop_all all_short ns i le
+short_decimal n lt = length-decimal-le 16 n (omega arith) lt (omega arith)
 
 -- each of short numbers is short
 pub short_at : (ns : List ℕ) (i : ℕ) → all_short ns ≡ true → i < length ns → get_or ns i 0 < 10 ^ 16
-short_at [] i t lt = absurd (let z : ⊥ = omega arith in z)
-short_at (n ∷ ns) zero t lt = ltb-true n (10 ^ 16) (and_parts (ltb n (10 ^ 16)) (all_short ns) t).0
-short_at (n ∷ ns) (suc i) t lt = short_at ns i (and_parts (ltb n (10 ^ 16)) (all_short ns) t).1 (omega arith)
+short_at ns i short lt = ltb-true (get_or ns i 0) (10 ^ 16) (and_at all_short (λ n. ltb n (10 ^ 16)) refl (λ _ _. refl) ns i 0 lt short)
 
 -- the bytes of one number more
 pub length-spaced : (n : ℕ) (ns : List ℕ) → length (spaced (n ∷ ns)) ≡ 1 + length (decimal n) + length (spaced ns)

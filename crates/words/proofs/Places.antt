@@ -17,7 +17,7 @@ Placed n ds = (i : ℕ) → i < length ds → get_or ds i 0 ≡ 48 + n / 10 ^ (l
 
 one : (n : ℕ) → n < 10 → Placed n ((48 + n) ∷ [])
 one n lt zero h = omega arith
-one n lt (suc i) h = absurd (let z : ⊥ = omega arith in z)
+one n lt (suc i) h = absurd (omega arith)
 
 more : (n : ℕ) (ds : List ℕ) → 10 ≤ n → Placed (n / 10) ds → Placed n (ds ++ ((48 + n % 10) ∷ []))
 more n ds le placed i lt =
@@ -44,27 +44,14 @@ more n ds le placed i lt =
 pub digit_at : (n : ℕ) → n < 2 ^ 64 → (i : ℕ) → i < length (decimal n) → get_or (decimal n) i 0 ≡ 48 + n / 10 ^ (length (decimal n) - 1 - i) % 10
 digit_at n small = decimal_by_steps Placed one more n small
 
--- a number below a power of ten has at most as many digits, and one that is no lower has more
-pub length_decimal_gt : (k n : ℕ) → 10 ^ k ≤ n → n < 2 ^ 64 → k < length (decimal n)
-length_decimal_gt k n le small =
-    ⊎_elim (λ lt. lt) (λ short. few short) (cases_lt k (length (decimal n)))
-  where
-    few : length (decimal n) ≤ k → k < length (decimal n)
-    few short =
-        let back = reads_back n small in
-        let low = digits_value_short own (decimal n) k back.0 short in
-        let same : digits_value (decimal n) ≡ n = back.1 in
-        absurd (let z : ⊥ = omega arith in z)
-
 -- the number of digits, from the powers of ten on either side
 pub length-decimal : (k n : ℕ) → 0 < k → n < 10 ^ k → (1 < k → 10 ^ (k - 1) ≤ n) → n < 2 ^ 64 → length (decimal n) ≡ k
 length-decimal k n some lt ge small =
     let few = length-decimal-le k n some lt small in
     let none = decimal_nonempty n small in
-    ⊎_elim
-    (λ long. let h = length_decimal_gt (k - 1) n (ge long) small in let e : length (decimal n) ≡ k = omega arith in e)
-    (λ le. let e : length (decimal n) ≡ k = omega arith in e)
-    (cases_lt 1 k)
+    let back = reads_back n small in
+    let fewer : length (decimal n) ≤ k - 1 → n < 10 ^ (k - 1) = λ short. rw back.1 at (digits_value_short own (decimal n) (k - 1) back.0 short) in
+    grind (arith, few, none, fewer, ge)
 
 -- the powers of ten from 10^0 to 10^15
 abbrev pub powers : List ℕ
@@ -75,27 +62,19 @@ power_at i d lt = get_or-map-range_with_len (λ i. 10 ^ i) 0 16 i i d lt (omega 
 
 -- as many of such powers are no larger than a number as it has digits, or none at 0
 count_of : (ps : List ℕ) → length ps ≡ 16 → ((i : ℕ) → i < 16 → get_or ps i 0 ≡ 10 ^ i) → (n k : ℕ) → n < 10 ^ 16 → k ≡ position_or_len (ltb n) ps → max k 1 ≡ length (decimal n)
-count_of ps long at n k small is = ⊎_elim (λ some. more some) (λ none. zeroth (let e : k ≡ 0 = omega arith in e)) (cases_lt 0 k)
-  where
-    within : k ≤ 16
-    within = omega (arith, is, prefix_len-le-length (λ p. not (ltb n p)) ps)
-
-    below : k < 16 → n < 10 ^ k
-    below lt =
-        let here : ltb n (get_or ps (position_or_len (ltb n) ps) 0) ≡ true = passes_at_first (ltb n) ps 0 (omega arith) in
-        ltb-true n (10 ^ k) (ap (ltb n) (sym (at k lt)) ∙ ap (λ i. ltb n (get_or ps i 0)) is ∙ here)
-
-    zeroth : k ≡ 0 → max k 1 ≡ length (decimal n)
-    zeroth none =
-        let few : n < 1 = rw none at (below (omega arith)) in
-        rw none (sym (length-decimal 1 n (omega arith) (omega arith) (λ lt. absurd (let z : ⊥ = omega arith in z)) (omega arith)))
-
-    more : 0 < k → max k 1 ≡ length (decimal n)
-    more some =
-        let before : ltb n (get_or ps (k - 1) 0) ≡ false = fails_before_first (ltb n) ps (k - 1) 0 (omega arith) in
-        let ge : 10 ^ (k - 1) ≤ n = ltb-false n (10 ^ (k - 1)) (ap (ltb n) (sym (at (k - 1) (omega (arith, within)))) ∙ before) in
-        let lt : n < 10 ^ k = ⊎_elim below (λ le. let all : k ≡ 16 = omega (arith, within) in rw all small) (cases_lt k 16) in
-        omega (arith, length-decimal k n some lt (λ _. ge) (omega arith))
+count_of ps long at n k small is =
+    let within : k ≤ 16 = omega (arith, is, prefix_len-le-length (λ p. not (ltb n p)) ps) in
+    let below : k < 16 → n < 10 ^ k =
+    λ lt. ltb-true n (10 ^ k) (ap (ltb n) (sym (at k lt)) ∙ ap (λ i. ltb n (get_or ps i 0)) is ∙ passes_at_first (ltb n) ps 0 (omega arith)) in
+    let above : 0 < k → 10 ^ (k - 1) ≤ n =
+    λ some. ltb-false n (10 ^ (k - 1)) (ap (ltb n) (sym (at (k - 1) (omega arith))) ∙ fails_before_first (ltb n) ps (k - 1) 0 (omega arith)) in
+    ⊎_elim
+    (λ some. omega (arith, length-decimal k n some (⊎_elim below (λ le. let all : k ≡ 16 = omega arith in rw all small) (cases_lt k 16)) (λ _. above some) (omega arith)))
+    (λ none.
+    let zero : k ≡ 0 = omega arith in
+    let few : n < 1 = rw zero at (below (omega arith)) in
+    rw zero (sym (length-decimal 1 n (omega arith) (omega arith) (λ lt. absurd (omega arith)) (omega arith))))
+    (cases_lt 0 k)
 
 pub count_of_powers : (n k : ℕ) → n < 10 ^ 16 → k ≡ position_or_len (ltb n) powers → max k 1 ≡ length (decimal n)
 count_of_powers n k small is = count_of powers refl (λ i lt. power_at i 0 lt) n k small is

@@ -28,12 +28,9 @@ loop-i-preserved c =
       row = begun_next (decimal c.args.n) c.args.out.now c.loop-i.out k c.in-Some.i _ _ lt c.requires.fits c.loop-i.invariant.row p.1 (length_push c.loop-i.yielded (c.in-Some.i, c.in-Some.power)) digit;
     }
 
-pub returns : goal.returns
-returns c =
+pub returns-clause-row : goal.returns-clause-row
+returns-clause-row c =
     let chain = YieldsList-from_enumerate (YieldsList-from_rev_slice (take c.digit_count-count.result powers) cc) cc in
     let t = YieldsList-end chain c.loop-i.yielded _ c.loop-i.yielded_by _ _ c.in-None.is c.next.ensures.steps in
     let all : length c.loop-i.yielded ≡ length (decimal c.args.n) = t.1 ∙ length-powers_down c.digit_count-count.result c.digit_count-count.ensures.few ∙ c.digit_count-count.ensures.count in
-    record {
-      count = c.digit_count-count.ensures.count;
-      row = c.loop-i.invariant.row ∙ ap (λ ds. begun ds c.args.out.now) (take_all (length c.loop-i.yielded) (decimal c.args.n) (omega arith));
-    }
+    c.loop-i.invariant.row ∙ ap (λ ds. begun ds c.args.out.now) (take_all (length c.loop-i.yielded) (decimal c.args.n) (omega arith))

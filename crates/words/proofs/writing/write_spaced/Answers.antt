@@ -18,7 +18,3 @@ loop-n-preserved c =
     (spaced_more c.args.numbers.now c.args.out.now c.loop-n.n-index c.loop-n.end c.loop-n.out c.write_digits.new.out
     c.loop-n-test.true c.requires.short c.requires.fits c.loop-n.auto.out c.loop-n.invariant c.write_digits.ensures.row)
 
-pub returns : goal.returns
-returns c =
-    let inv = rw (take_all c.loop-n.n-index c.args.numbers.now c.loop-n-test.false) at c.loop-n.invariant in
-    record { end = inv.0; within = omega (arith, inv.1); row = inv.2 }
