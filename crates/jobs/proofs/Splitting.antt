@@ -2,7 +2,7 @@
 use Rattle.std.proofs.Common.{◌≡◌, ℕ, suc, ◌+◌, Bool, true, false, cond, eqb, List, [], ◌∷◌, length, drop, sym, refl, ap, ◌∙◌, arith}
 use Rattle.std.proofs.lemmas.Bool.{eqb-true}
 use Rattle.std.proofs.lemmas.List.Recursion.{is_position_or_len}
-use Rattle.std.specs.List.{position_or_len}
+use Rattle.std.specs.List.{onto_first, position_or_len}
 use Rattle.words.specs.Words.{up_to_gap}
 use Rattle.jobs.specs.Lines.{on_first, lines_of, words_of, line_of}
 use Rattle.jobs.specs.Reading.{tail_words}
@@ -16,7 +16,7 @@ words_at (b ∷ bs) = go (eqb b 10) (eqb b 32) refl refl (words_at bs)
     go true true e s h = absurd (let z : ⊥ = omega (arith, eqb-true b 10 e, eqb-true b 32 s) in z)
     go true false e s h = simp (e, s)
     go false true e s h = simp (e, s)
-    go false false e s h = simp (e, s) (ap (on_first b) h)
+    go false false e s h = simp (e, s) (ap (onto_first b) h)
 
 -- a first byte that does not end its line
 before_line : (b : ℕ) (xs : List ℕ) → lines_of xs ≡ line_of xs ∷ lines_of (drop (length (line_of xs) + 1) xs) → on_first b (lines_of xs) ≡ (b ∷ line_of xs) ∷ lines_of (drop (suc (length (line_of xs)) + 1) (b ∷ xs))

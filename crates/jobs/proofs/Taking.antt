@@ -1,10 +1,10 @@
 -- The numbers of a line, taken one after the other. Assumes nothing.
-use Rattle.std.proofs.Common.{◌≡◌, ℕ, ◌<◌, ◌≤◌, Bool, true, false, cond, ◌&&◌, eqb, ltb, leb, List, [], ◌∷◌, ◌++◌, length, get_or, drop, Some, None, Option, sym, refl, ap, ◌∙◌, append_assoc, arith, length-append}
+use Rattle.std.proofs.Common.{◌≡◌, ℕ, ◌<◌, ◌≤◌, Bool, true, false, cond, eqb, List, [], ◌∷◌, ◌++◌, length, get_or, drop, Some, None, Option, sym, refl, ap, ◌∙◌, append_assoc, arith, length-append}
 use Rattle.std.proofs.lemmas.Bool.{eq-eqb, ne_eqb, lt-ltb, lt-leb}
 use Rattle.std.proofs.lemmas.List.{append-nil}
 use Rattle.words.specs.Numbers.{is_number, number_of}
 use Rattle.words.specs.Words.{letter, number, line_end, up_to_gap, is_letter, lexed}
-use Rattle.jobs.specs.Jobs.{Job, before, numbers_of, diagonal_of, table_of, run_of, formed, formed_of, job_in, job_of, spacing, widest}
+use Rattle.jobs.specs.Jobs.{before, numbers_of, diagonal_of, table_of, run_of, formed, formed_of, job_in, job_of, spacing, widest}
 use Rattle.jobs.specs.Lines.{line_of}
 use Rattle.jobs.specs.Reading.{tail_words, letter_in}
 use Rattle.jobs.proofs.Forming.{one_byte}

@@ -1,5 +1,6 @@
 -- The lines of a sheet and the words of a line. Assumes nothing.
 use Rattle.std.specs.Prelude.{ℕ, cond, List, [], ◌∷◌, ◌==◌}
+use Rattle.std.specs.List.{slice_split}
 
 -- some rows with one byte more at the beginning of the first; where there is none, that byte is one
 abbrev pub on_first : ℕ → List (List ℕ) → List (List ℕ)
@@ -13,8 +14,7 @@ lines_of (b ∷ bs) = cond (b == 10) ([] ∷ lines_of bs) (on_first b (lines_of 
 
 -- the words of a line: the rows of bytes between its spaces, of which there is one more than spaces
 abbrev pub words_of : List ℕ → List (List ℕ)
-words_of [] = [] ∷ []
-words_of (b ∷ bs) = cond (b == 32) ([] ∷ words_of bs) (on_first b (words_of bs))
+words_of line = slice_split (λ b. b == 32) line
 
 -- the first line of these bytes of a sheet: all before the first byte 10
 abbrev pub line_of : List ℕ → List ℕ

@@ -1,5 +1,5 @@
 -- The digits of a number by their places. Assumes nothing.
-use Rattle.std.proofs.Common.{◌≡◌, ℕ, max, not, ltb, refl, true, false, map, zero, suc, ◌+◌, ◌-◌, ◌/◌, ◌%◌, ◌^◌, ◌<◌, ◌≤◌, List, [], ◌∷◌, ◌++◌, length, take, reverse, get_or, decimal, sym, ap, ◌∙◌, ⊎_elim, arith}
+use Rattle.std.proofs.Common.{◌≡◌, ℕ, max, not, ltb, refl, map, zero, suc, ◌+◌, ◌-◌, ◌/◌, ◌%◌, ◌^◌, ◌<◌, ◌≤◌, List, [], ◌∷◌, ◌++◌, length, take, reverse, get_or, decimal, sym, ap, ◌∙◌, ⊎_elim, arith}
 use native.Mathlib.Nat.{one-le-pow, pow-succ', div-div-eq-div-mul}
 use Rattle.std.proofs.lemmas.Fmt.{decimal_by_steps, decimal_nonempty, length-decimal-le}
 use Rattle.std.proofs.lemmas.List.{get_or-reverse, get_or-take, get_or_append_left, get_or_push, length_push, length-reverse, length-take-le}
@@ -8,7 +8,6 @@ use Rattle.std.proofs.lemmas.Bool.{cases_lt, ltb-true, ltb-false}
 use Rattle.std.specs.List.{range_with_len, enumerate_from, position_or_len}
 use Rattle.std.proofs.lemmas.List.FromFn.{get_or-map-range_with_len, get_or-enumerate_from, length-enumerate_from}
 use Rattle.std.proofs.lemmas.List.Sums.{prefix_len-le-length, fails_before_first, passes_at_first}
-use Rattle.words.specs.Numbers.{digits_value}
 use Rattle.words.proofs.Decimals.{own, reads_back}
 
 -- each of these digits is the number's digit at its place

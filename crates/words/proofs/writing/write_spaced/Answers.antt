@@ -1,5 +1,4 @@
 use Rattle.std.proofs.Common.{get_or, arith, length-set, length-take, length-drop}
-use Rattle.std.proofs.lemmas.List.{take_all}
 use Rattle.words.proofs.Lines.{short_at, short_decimal, spaced_more}
 use Rattle.words.proofs.writing.write_spaced.Goals as goal
 
@@ -17,4 +16,3 @@ loop-n-preserved c =
     rw c.write_digits.ensures.count
     (spaced_more c.args.numbers.now c.args.out.now c.loop-n.n-index c.loop-n.end c.loop-n.out c.write_digits.new.out
     c.loop-n-test.true c.requires.short c.requires.fits c.loop-n.auto.out c.loop-n.invariant c.write_digits.ensures.row)
-
