@@ -1,9 +1,8 @@
 // One line of input, as numbers.
-ghost use Rattle.std.specs.Prelude.{◌≡◌, IfErr};
+ghost use Rattle.std.specs.Prelude.{◌≡◌, ◌<◌, length, MatchResult};
 ghost use Rattle.limits.specs.Lines.{line_of, Told, NotCount};
-ghost use Rattle.limits.specs.declared.lines.Fault.TheVariants.{OutOfMemory};
 
-use std::alloc::{AllocError, Global};
+use arrayvec::ArrayVec;
 use tables::Point;
 
 // What a line holds.
@@ -20,43 +19,42 @@ pub enum Fault<'a> {
     NoNumber(&'a str),
     // another count of numbers than a line has
     Count(usize),
-    OutOfMemory,
 }
 
 // Reads a line, which may hold nothing; a word that begins with `#` ends it.
-pub fn read_line<'a>(alloc: Global, text: &'a str) -> Result<Option<Line>, Fault<'a>>
+pub fn read_line(text: &str) -> Result<Option<Line>, Fault<'_>>
     ensures { Told result }
 {
-    let numbers = numbers(alloc, text)?;
-    line_of(&numbers)
+    let (numbers, more) = numbers(text)?;
+    line_of(numbers.as_slice(), more)
 }
 
-// The numbers of a line.
-fn numbers<'a>(alloc: Global, text: &'a str) -> Result<Vec<u32>, Fault<'a>>
-    ensures { IfErr result NotCount }
+// The numbers of a line, up to three, and how many more there are.
+fn numbers(text: &str) -> Result<(ArrayVec<u32, 3>, usize), Fault<'_>>
+    ensures { MatchResult result (λ r. 0 < r.1 → length r.0.items ≡ 3) NotCount }
 {
-    text.split_whitespace()
-        .take_while(|word| !word.starts_with('#'))
-        .map(|word| word.parse().map_err(|_| Fault::NoNumber(word)))
-        .try_collect(alloc)
-}
-
-// What these numbers make, if there are any.
-fn line_of<'a>(numbers: &[u32]) -> Result<Option<Line>, Fault<'a>>
-    ensures { result ≡ line_of numbers.now }
-{
-    match *numbers {
-        [] => Ok(None),
-        [at, value] => Ok(Some(Line::Answer(Point { at, value }))),
-        [span, first, last] => Ok(Some(Line::Ends { span, first, last })),
-        _ => Err(Fault::Count(numbers.len())),
+    let words = text
+        .split_whitespace()
+        .take_while(|word| !word.starts_with('#'));
+    let mut numbers: ArrayVec<u32, 3> = ArrayVec::new();
+    let mut more = 0usize;
+    for word in words {
+        let number = word.parse().map_err(|_| Fault::NoNumber(word))?;
+        if numbers.try_push(number).is_err() {
+            more = more.saturating_add(1);
+        }
     }
+    Ok((numbers, more))
 }
 
-impl From<AllocError> for Fault<'_> {
-    ghost from_gives = { λ _ fault. fault ≡ OutOfMemory };
-
-    fn from(_: AllocError) -> Self {
-        Fault::OutOfMemory
+// What these numbers make, if there are any, with so many more after them.
+fn line_of<'a>(numbers: &[u32], more: usize) -> Result<Option<Line>, Fault<'a>>
+    ensures { result ≡ line_of numbers.now more }
+{
+    match (numbers, more) {
+        ([], 0) => Ok(None),
+        (&[at, value], 0) => Ok(Some(Line::Answer(Point { at, value }))),
+        (&[span, first, last], 0) => Ok(Some(Line::Ends { span, first, last })),
+        _ => Err(Fault::Count(numbers.len().saturating_add(more))),
     }
 }

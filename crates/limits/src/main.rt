@@ -15,7 +15,7 @@ fn main(rt: HostRuntime) -> io::Result<()> {
     let mut notes = Notes::new();
     let lines = BufReader::new(rt.alloc(), rt.stdin())?.lines(rt.alloc());
     for (number, text) in (1..=u64::MAX).zip(lines) {
-        match read_line(rt.alloc(), text?.as_str()) {
+        match read_line(text?.as_str()) {
             Ok(None) => {}
             Ok(Some(line)) => match notes.enter(line) {
                 Ok(done) => println!(rt; "line {number}: {done}")?,

@@ -58,7 +58,6 @@ impl fmt::Display for Fault<'_> {
                     "{count} numbers, where an answer has two and the ends have three"
                 )
             }
-            Fault::OutOfMemory => write!(f, "out of memory"),
         }
     }
 }
