@@ -9,10 +9,10 @@ ghost use Rattle.strips.specs.Makings.{strip_denied};
 ghost use Rattle.exports.specs.Climate.{temperature_level};
 ghost use Rattle.exports.specs.Replies.{Replied, answer_of, ends_of};
 
-use super::making::{counter_over, strip_over, table_over};
+use super::making::{counter_over, strip_over};
 use super::replies::{Reply, tell};
 use counters::ClimateReading;
-use loggers::Logger;
+use loggers::{KeptTable, Logger};
 
 // How many ones stand among the first x bits of a strip.
 #[unsafe(no_mangle)]
@@ -35,7 +35,7 @@ pub extern "C" fn sealed_climate_count(readings: &[ClimateReading], span: u32, x
 pub extern "C" fn sealed_table_ends(values: &[u32]) -> Reply
     ensures { Replied (table_denied values.now) result (λ s. s ≡ ends_of (row_table values.now) (length values.now - 1)) (Unit {0}) }
 {
-    tell(table_over(values).map(|table| ends(&table)))
+    tell(KeptTable::new(values).map(|table| ends(&table)))
 }
 
 // A logger's count at x.

@@ -1,27 +1,15 @@
-// Loggers over lent rows.
+// Strips and counters over lent rows.
 ghost use Rattle.std.specs.Prelude.{◌≡◌, length};
 ghost use Rattle.counters.specs.Held.{readings_of};
 ghost use Rattle.counters.specs.Makings.{counter_denied};
 ghost use Rattle.denials.specs.Checks.{Decided};
 ghost use Rattle.denials.specs.Told.{told};
-ghost use Rattle.loggers.specs.Held.{row_of};
-ghost use Rattle.loggers.specs.Makings.{table_denied};
 ghost use Rattle.strips.specs.Held.{words_of};
 ghost use Rattle.strips.specs.Makings.{strip_denied};
 
 use counters::{ClimateReading, Counter};
 use denials::Denial;
-use loggers::TableLogger;
 use strips::DoorStrip;
-
-// The table logger of these values.
-pub(crate) fn table_over(values: &[u32]) -> Result<TableLogger<'_>, Denial>
-    ensures { Decided told (table_denied values.now) result (λ table. row_of table ≡ values.now) (Unit {0}) }
-{
-    let mut table = TableLogger::new();
-    table.fill(values)?;
-    Ok(table)
-}
 
 // The strip of these words.
 pub(crate) fn strip_over(words: &[u64], span: u32) -> Result<DoorStrip<'_>, Denial>

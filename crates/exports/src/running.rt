@@ -15,12 +15,12 @@ ghost use Rattle.strips.specs.Makings.{strip_denied};
 ghost use Rattle.exports.specs.Climate.{temperature_level};
 ghost use Rattle.exports.specs.Replies.{Replied, RunOf, plan_of, way_of, ScoreOf};
 
-use super::making::{counter_over, strip_over, table_over};
+use super::making::{counter_over, strip_over};
 use super::replies::{Reply, tell};
 use bench::{Widths, read_out, score};
 use counters::ClimateReading;
 use denials::Denial;
-use loggers::Logger;
+use loggers::{KeptTable, Logger};
 use plans::{Way, WidestRectangle};
 
 // Runs a plan on the table logger of these values.
@@ -29,7 +29,7 @@ pub extern "C" fn sealed_table_run(values: &[u32], widest: bool, questions: u32)
     ensures { Replied (option_or (table_denied values.now) (budget_denied (length values.now - 1) questions)) result (RunOf (plan_of widest questions) (row_table values.now) (length values.now - 1) questions) (Unit {0}) }
 {
     let way = way_of(widest);
-    tell(table_over(values).and_then(|table| run_on(&table, way, questions)))
+    tell(KeptTable::new(values).and_then(|table| run_on(&table, way, questions)))
 }
 
 // Runs a plan on the strip of these words.
