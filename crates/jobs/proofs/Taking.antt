@@ -1,7 +1,6 @@
 -- The numbers of a line, taken one after the other. Assumes nothing.
 use Rattle.std.proofs.Common.{◌≡◌, ℕ, ◌<◌, ◌≤◌, Bool, true, false, cond, eqb, List, [], ◌∷◌, ◌++◌, length, get_or, drop, Some, None, Option, sym, refl, ap, ◌∙◌, append_assoc, arith, length-append}
-use Rattle.std.proofs.lemmas.Bool.{eq-eqb, ne_eqb, lt-ltb, lt-leb}
-use Rattle.std.proofs.lemmas.List.{append-nil}
+use Rattle.std.proofs.lemmas.Bool.{eq-eqb, lt-ltb, lt-leb}
 use Rattle.words.specs.Numbers.{is_number, number_of}
 use Rattle.words.specs.Words.{letter, number, line_end, up_to_gap, is_letter, lexed}
 use Rattle.jobs.specs.Jobs.{before, numbers_of, diagonal_of, table_of, run_of, formed, formed_of, job_in, job_of, spacing, widest}
@@ -24,11 +23,6 @@ front_more ns n (Some ms) = ap Some (sym (append_assoc ns (n ∷ []) ms))
 tail_space : (rest : List ℕ) → 0 < length rest → get_or rest 0 0 ≡ 32 → tail_words rest ≡ up_to_gap (drop 1 rest) ∷ tail_words (drop (length (up_to_gap (drop 1 rest))) (drop 1 rest))
 tail_space [] lt e = absurd (omega arith)
 tail_space (b ∷ bs) lt e = rw (eq-eqb b 32 e) (words_at bs)
-
--- where there is no space, no word follows
-pub tail_other : (rest : List ℕ) → (0 < length rest → get_or rest 0 0 ≡ 32 → ⊥) → tail_words rest ≡ []
-tail_other [] ne = refl
-tail_other (b ∷ bs) ne = rw (ne_eqb b 32 (ne (omega arith))) refl
 
 -- more than 64 numbers are no job's
 too_many : (c : ℕ) (ns : List ℕ) → 64 < length ns → formed c ns ≡ None
@@ -76,10 +70,6 @@ take_full rest n ns c lt space e full = ap (formed_of c) (take_more rest _ n ns 
     go : (o : Option (List ℕ)) → formed_of c (with_front (ns ++ (n ∷ [])) o) ≡ None
     go None = refl
     go (Some ms) = too_many c ((ns ++ (n ∷ [])) ++ ms) (omega (arith, length-append (ns ++ (n ∷ [])) ms, length-append ns (n ∷ [])))
-
--- where the words end, the numbers so far are all
-pub take_all_of : (rest ns : List ℕ) → tail_words rest ≡ [] → with_front ns (numbers_of (tail_words rest)) ≡ Some ns
-take_all_of rest ns e = ap (λ ws. with_front ns (numbers_of ws)) e ∙ ap Some (append-nil ns)
 
 -- what a line asks for, by its first word
 by_first : (rest : List ℕ) → job_of (line_of rest) ≡ cond (is_letter (up_to_gap rest)) (formed_of (get_or (up_to_gap rest) 0 0) (numbers_of (tail_words (drop (length (up_to_gap rest)) rest)))) None
