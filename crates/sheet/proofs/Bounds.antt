@@ -1,7 +1,7 @@
 -- The figures of an accepted run are small. Assumes nothing.
-use Rattle.std.proofs.Common.{◌≡◌, ℕ, ◌+◌, ◌-◌, ◌*◌, ◌^◌, ◌<◌, ◌≤◌, Bool, true, false, ltb, [], ◌∷◌, List, Ok, sym, refl, ap, ◌∙◌, subst, arith}
+use Rattle.std.proofs.Common.{◌≡◌, ℕ, ◌+◌, ◌*◌, ◌^◌, ◌<◌, ◌≤◌, Bool, true, false, [], ◌∷◌, List, Ok, sym, refl, ap, ◌∙◌, subst, arith}
 use Rattle.std.proofs.lemmas.Nat.{mul-le}
-use Rattle.std.proofs.lemmas.Bool.{or_parts, ltb-false}
+use Rattle.std.proofs.lemmas.Bool.Decides.{nat_tests}
 use Rattle.bench.specs.declared.running.Ran.{Ran}
 use Rattle.bench.specs.Runs.{RanOn, budget_denied}
 use Rattle.bench.proofs.Measuring.{budget_below}
@@ -39,7 +39,7 @@ high_small t N log is agrees short small =
 
 -- a budget that is accepted is at most 254
 budget_few : (N n : ℕ) → bad_budget N n ≡ false → n ≤ 254
-budget_few N n h = ltb-false 254 n (or_parts (ltb 254 n) (ltb (N - 1) n) h).0
+budget_few N n h = grind (arith, nat_tests)
 
 pub record SmallRun (N k lo hi : ℕ) : Type 0 where
   pub span : N < 10 ^ 7

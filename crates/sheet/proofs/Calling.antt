@@ -1,9 +1,8 @@
 -- Every sheet prints, line by line, what the calls that its lines ask for give. Assumes nothing.
-use Rattle.std.proofs.Common.{◌≡◌, ℕ, ◌+◌, ◌-◌, ◌<◌, ◌≤◌, Bool, true, false, eqb, ltb, ◌↔◌, List, [], ◌∷◌, length, is_some, Some, None, Ok, Option, sym, refl, ap, ◌∙◌, subst, mul-le-mul_left, arith}
-use Rattle.std.proofs.lemmas.Bool.{or_parts, ltb-false, eqb-false}
+use Rattle.std.proofs.Common.{◌≡◌, ℕ, ◌+◌, ◌-◌, ◌<◌, ◌≤◌, Bool, true, false, ◌↔◌, List, [], ◌∷◌, length, is_some, Some, None, Ok, Option, sym, refl, ap, ◌∙◌, subst, mul-le-mul_left, arith}
+use Rattle.std.proofs.lemmas.Bool.Decides.{nat_tests}
 use Rattle.bench.specs.Runs.{budget_denied}
-use Rattle.bench.proofs.Measuring.{budget_below}
-use Rattle.denials.specs.Bounds.{bad_span, bad_budget}
+use Rattle.denials.specs.Bounds.{bad_span}
 use Rattle.denials.specs.Checks.{first}
 use Rattle.jobs.specs.Jobs.{Job, diagonal, table, spacing, widest, asking, Fits, job_of}
 use Rattle.jobs.specs.Lines.{lines_of}
@@ -38,18 +37,12 @@ SoundSetting (Some l) = Sound l.0 l.1
 
 -- a span that is accepted
 good_span : (n : ℕ) → bad_span n ≡ false → (1 ≤ n) × (n ≤ 1000000)
-good_span n e =
-    let parts = or_parts (eqb n 0) (ltb 1000000 n) e in
-    let ne = eqb-false n 0 parts.0 in
-    (one n ne, ltb-false 1000000 n parts.1)
-  where
-    one : (n : ℕ) → (n ≡ 0 → ⊥) → 1 ≤ n
-    one n ne = omega arith
+good_span n e = grind (arith, nat_tests)
 
 -- the first of two checks did not fail
 first_of_two : (a b : Bool) (x y : ℕ × List ℕ) → first ((a, x) ∷ (b, y) ∷ []) ≡ None → (a ≡ false) × (b ≡ false)
-first_of_two true b x y e = let z : ◌≡◌ {A = ℕ} 0 1 = cc in absurd (let w : ⊥ = omega arith in w)
-first_of_two false true x y e = let z : ◌≡◌ {A = ℕ} 0 1 = cc in absurd (let w : ⊥ = omega arith in w)
+first_of_two true b x y e = absurd cc
+first_of_two false true x y e = absurd cc
 first_of_two false false x y e = (refl, refl)
 
 -- an accepted diagonal and an accepted table are loggers
@@ -60,7 +53,7 @@ diagonal_sound N c e =
 
 none_if_not_some : (o : Option ℕ) → is_some o ≡ false → o ≡ None
 none_if_not_some None e = refl
-none_if_not_some (Some x) e = let z : ◌≡◌ {A = ℕ} 0 1 = cc in absurd (let w : ⊥ = omega arith in w)
+none_if_not_some (Some x) e = absurd cc
 
 table_sound : (vs : List ℕ) → table_denied vs ≡ None → Sound (row_table vs) (length vs - 1)
 table_sound vs e =
@@ -71,11 +64,7 @@ table_sound vs e =
 
 -- a budget that is accepted
 good_budget : (N n : ℕ) → 1 ≤ N → budget_denied N n ≡ None → n < N
-good_budget N n some e = go (bad_budget N n) refl e
-  where
-    go : (bad : Bool) → bad_budget N n ≡ bad → first {X = ℕ × List ℕ} ((bad, (3, [])) ∷ []) ≡ None → n < N
-    go true p h = let z : ◌≡◌ {A = ℕ} 0 1 = cc in absurd (let w : ⊥ = omega arith in w)
-    go false p h = budget_below N n some p
+good_budget N n some e = grind (arith, nat_tests)
 
 -- a printed run is a run of the plan, with its sharp limits
 run_line : (way : Way) (t : Table) (N n : ℕ) → Lawful (plan_of way n) → Sound t N → budget_denied N n ≡ None → RunLine (letter_of way) (plan_of way n) t N n (shown 0 (Ok (Some (figures_of way t N n))))
@@ -117,15 +106,15 @@ still_sound s (Some job) sound = go (stands s job) refl
 accepted : (i : ℕ) (s : Setting) (line : List ℕ) (job : Job) → SoundSetting s → line ≡ asking job → stands s job ≡ None → Leads i s line (does s job).0 (shown i (Ok (does s job).1))
 accepted i s line (diagonal N c) sound is e = sets_diagonal N c is e
 accepted i s line (table vs) sound is e = sets_table vs is e
-accepted i None line (spacing n) sound is e = let z : ◌≡◌ {A = ℕ} 0 1 = cc in absurd (let w : ⊥ = omega arith in w)
+accepted i None line (spacing n) sound is e = absurd cc
 accepted i (Some l) line (spacing n) sound is e = runs_spacing l.0 l.1 n _ is refl e (run_line EqualSpacing l.0 l.1 n (spacing_is_lawful n) sound e)
-accepted i None line (widest n) sound is e = let z : ◌≡◌ {A = ℕ} 0 1 = cc in absurd (let w : ⊥ = omega arith in w)
+accepted i None line (widest n) sound is e = absurd cc
 accepted i (Some l) line (widest n) sound is e = runs_widest l.0 l.1 n _ is refl e (run_line WidestRectangle l.0 l.1 n widest_is_lawful sound e)
 
 -- what a line leads to, by what it asks for
 lead_by : (i : ℕ) (s : Setting) (line : List ℕ) (o : Option Job) → job_of line ≡ o → SoundSetting s → Leads i s line (leads s o).0 (shown i (leads s o).1)
 lead_by i s line None e sound =
-    other_form (λ job fits is. let z : ◌≡◌ {A = Option Job} None (Some job) = sym e ∙ (lines_are_exact line job).1 (is, fits) in let y : ◌≡◌ {A = ℕ} 0 1 = cc in omega arith)
+    other_form (λ job fits is. let z : ◌≡◌ {A = Option Job} None (Some job) = sym e ∙ (lines_are_exact line job).1 (is, fits) in cc)
 lead_by i s line (Some job) e sound = go (stands s job) refl
   where
     exact : (line ≡ asking job) × Fits job

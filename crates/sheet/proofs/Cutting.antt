@@ -15,9 +15,9 @@ first_line : (b : ℕ) (bs rest : List ℕ) (i : ℕ) → length (b ∷ bs) ≡ 
 first_line b [] rest zero n first =
     let end = first.1 (omega arith) b in
     record { some = omega arith; parts = omega arith; line = rw end refl; lines = rw end refl; ends = λ _. rw end (omega arith) }
-first_line b (c ∷ cs) rest zero n first = absurd (let z : ⊥ = omega arith in z)
-first_line b [] [] (suc j) n first = record { some = omega arith; parts = omega arith; line = refl; lines = rw (first.0 0 b (omega arith) (omega arith)) refl; ends = λ some. absurd (let z : ⊥ = omega arith in z) }
-first_line b [] (r ∷ rs) (suc j) n first = absurd (let z : ⊥ = omega arith in z)
+first_line b (c ∷ cs) rest zero n first = absurd (omega arith)
+first_line b [] [] (suc j) n first = record { some = omega arith; parts = omega arith; line = refl; lines = rw (first.0 0 b (omega arith) (omega arith)) refl; ends = λ some. absurd (omega arith) }
+first_line b [] (r ∷ rs) (suc j) n first = absurd (omega arith)
 first_line b (c ∷ cs) rest (suc j) n first =
     let none = first.0 0 b (omega arith) (omega arith) in
     let later = first_line c cs rest j (omega arith) (λ k d _ lt. first.0 (suc k) d (omega arith) (omega arith), λ lt d. first.1 (omega arith) d) in
@@ -28,7 +28,7 @@ pub piece_is_line : (sheet piece rest : List ℕ) (i : ℕ) → sheet ≡ piece 
 piece_is_line sheet piece rest i is n first some = go piece is n
   where
     go : (piece : List ℕ) → sheet ≡ piece ++ rest → length piece ≡ min (i + 1) (length sheet) → Cut sheet piece rest
-    go [] is n = absurd (let z : ⊥ = omega arith in z)
+    go [] is n = absurd (omega arith)
     go (b ∷ bs) is n =
         subst (λ s. Cut s (b ∷ bs) rest) (sym is)
         (first_line b bs rest i (n ∙ ap (λ s. min (i + 1) (length s)) is) (subst (λ s. IsFirstMatchOrLen (λ y. eqb y 10) s i) is first))

@@ -21,7 +21,7 @@ spaced_some n ns h = omega (arith, decimal_nonempty n h, length-append (decimal 
 -- a line that asks for a job has a letter, a space and a digit
 asking_long : (job : Job) → Fits job → 3 ≤ length (asking job)
 asking_long (diagonal n c) fits = omega (arith, spaced_some n (c ∷ []) (omega (arith, fits.0)))
-asking_long (table []) fits = absurd (let z : ⊥ = omega (arith, fits.0) in z)
+asking_long (table []) fits = absurd (omega (arith, fits.0))
 asking_long (table (v ∷ vs)) fits = omega (arith, spaced_some v vs (omega (arith, fits.2.0)))
 asking_long (spacing n) fits = omega (arith, spaced_some n [] (omega (arith, fits)))
 asking_long (widest n) fits = omega (arith, spaced_some n [] (omega (arith, fits)))
