@@ -10,18 +10,18 @@ pub use tables::{Point, least_width};
 
 // loggers, by the tables that they mean
 pub use counters::{ClimateReading, Counter, Level, OwnUnit, SupplyReading};
-pub use loggers::{Diagonal, Logger, TableLogger};
+pub use loggers::{Chosen, Diagonal, KeptTable, Logger, TableLogger, check_span};
 pub use strips::DoorStrip;
 pub use windows::{Turned, Window};
 
 // plans, by the functions that they mean
-pub use plans::{EqualSpacing, Plan, WidestRectangle, lowest_unknown};
+pub use plans::{AnyPlan, EqualSpacing, Plan, Way, WidestRectangle, lowest_unknown};
 
 // the readout and its tickets
-pub use readout::{Event, Outcome, Readout, Returned, Summary, Ticket};
+pub use readout::{Event, Outcome, Readout, Refusal, Returned, Summary, Ticket};
 
 // the run, the score and the guarantee
-pub use bench::{Line, Ran, Widths, run, score};
+pub use bench::{Line, Ran, Widths, read_out, run, score};
 
 // the job sheet
 pub use sheet::run_sheet;
