@@ -46,7 +46,7 @@ impl Level for ClimateReading {
     ghost height = { λ r. climate_level r.temperature };
 
     fn level(&self) -> u32 {
-        let above = self.temperature as i32 + 4_000;
+        let above = i32::from(self.temperature) + 4_000;
         if above < 0 { 0 } else { above as u32 }
     }
 }
@@ -67,7 +67,7 @@ impl Level for SupplyReading {
     ghost height = { λ r. r.millivolts };
 
     fn level(&self) -> u32 {
-        self.millivolts as u32
+        u32::from(self.millivolts)
     }
 }
 

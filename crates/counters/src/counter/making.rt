@@ -10,7 +10,7 @@ use super::Counter;
 use crate::counting::count_up_to;
 use crate::levels::Level;
 use denials::Denial;
-use loggers::Logger;
+use loggers::{Logger, check_span};
 
 impl<'a, T> Counter<'a, T> {
     // A new place: span 1 and no readings.
@@ -27,9 +27,7 @@ impl<'a, T> Counter<'a, T> {
     pub fn fill(&mut self, readings: &'a [T], span: u32) -> Result<(), Denial>
         ensures { Decided told (counter_denied span (length readings.now)) result (λ _. (readings_of self.new ≡ readings.now) × (self.new.span ≡ span)) (self.new ≡ self.old) }
     {
-        if span == 0 || span > 1_000_000 {
-            return Err(Denial::Span);
-        }
+        check_span(span as usize)?;
         if readings.len() > 1_000_000 {
             return Err(Denial::Readings);
         }
@@ -58,10 +56,6 @@ impl<'a, T: Level> Logger for Counter<'a, T> {
     }
 
     fn count(&self, x: u32) -> Option<u32> {
-        if x <= self.span {
-            Some(count_up_to(self.readings, x) as u32)
-        } else {
-            None
-        }
+        (x <= self.span).then(|| count_up_to(self.readings, x) as u32)
     }
 }
