@@ -1,5 +1,6 @@
 // The door strip: its making, and what it answers.
-ghost use Rattle.std.specs.Prelude.{◌≡◌, ◌*◌, ◌≤◌, [], ◌∷◌, length};
+ghost use Rattle.std.specs.Prelude.{◌≡◌, ◌*◌, ◌^◌, ◌<◌, ◌≤◌, [], ◌∷◌, length, sum_by};
+ghost use Rattle.std.specs.Int.Count.{ones};
 ghost use Rattle.denials.specs.Told.{told};
 ghost use Rattle.denials.specs.Checks.{Decided};
 ghost use Rattle.strips.specs.Bits.{strip_table, strip_never_falls};
@@ -8,20 +9,24 @@ ghost use Rattle.strips.specs.Held.{words_of};
 
 use super::DoorStrip;
 use denials::Denial;
-use loggers::Logger;
+use loggers::{Logger, check_span};
+
+// How many ones stand in these words.
+fn ones_of(words: &[u64]) -> u32
+    requires { sum_by ones words.now < 2 ^ 32 }
+    ensures { result ≡ sum_by ones words.now }
+{
+    words.iter().map(|word| word.count_ones()).sum()
+}
 
 // How many ones stand among the first x bits of a row of words.
-#[tactic(auto, using(crate::proofs::Counts::few_rest))]
 fn ones_before(words: &[u64], x: u32) -> u32
     requires { x ≤ 64 * length words.now }
     ensures { result ≡ strip_table words.now x }
 {
     let whole = (x / 64) as usize;
     let rest = x % 64;
-    let mut total = 0;
-    for i in 0..whole {
-        total += words[i].count_ones();
-    }
+    let total = ones_of(&words[..whole]);
     if rest == 0 {
         return total;
     }
@@ -43,9 +48,7 @@ impl<'a> DoorStrip<'a> {
     pub fn fill(&mut self, words: &'a [u64], span: u32) -> Result<(), Denial>
         ensures { Decided told (strip_denied words.now span) result (λ _. (words_of self.new ≡ words.now) × (self.new.span ≡ span)) (self.new ≡ self.old) }
     {
-        if span == 0 || span > 1_000_000 {
-            return Err(Denial::Span);
-        }
+        check_span(span as usize)?;
         if words.len() < (span as usize).div_ceil(64) {
             return Err(Denial::Readings);
         }
@@ -74,10 +77,6 @@ impl<'a> Logger for DoorStrip<'a> {
     }
 
     fn count(&self, x: u32) -> Option<u32> {
-        if x <= self.span {
-            Some(ones_before(self.words, x))
-        } else {
-            None
-        }
+        (x <= self.span).then(|| ones_before(self.words, x))
     }
 }
