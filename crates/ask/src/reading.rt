@@ -51,7 +51,7 @@ fn read_words<'a>(heap: Global, words: &[&'a str]) -> Result<Option<Line>, Unrea
     Ok(Some(line))
 }
 
-// The numbers that words say.
+// The numbers that words say: a loop with `?`, since the contract tells the first word that is none.
 fn numbers_of<'a>(heap: Global, words: &[&'a str]) -> Result<Vec<u32>, Unread<'a>>
     ensures { IfRead result (λ r. MatchResult r (λ v. SayNumbers words.now v.items) (TellsFirstUnclear words.now)) }
 {

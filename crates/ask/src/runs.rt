@@ -20,6 +20,7 @@ use plans::Way;
 #[derive(Drop)]
 pub struct Report {
     pub answers: ArrayVec<Answer, 254>,
+    // by the run, whose contract does not tell what a plan noted
     pub asked: u32,
     pub limits: Limits,
     pub promise: u64,
