@@ -48,10 +48,6 @@ impl<L: Logger> Logger for Turned<L> {
 
     fn count(&self, x: u32) -> Option<u32> {
         let span = self.inner.span();
-        if x <= span {
-            Some(rise_from(&self.inner, span - x))
-        } else {
-            None
-        }
+        (x <= span).then(|| rise_from(&self.inner, span - x))
     }
 }

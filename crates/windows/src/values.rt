@@ -8,10 +8,7 @@ pub(crate) fn value_at<L: Logger>(logger: &L, x: u32) -> u32
     requires { x ≤ L.Logger.extent logger.now }
     ensures { result ≡ L.Logger.table logger.now x }
 {
-    match logger.count(x) {
-        Some(value) => value,
-        None => unreachable(),
-    }
+    logger.count(x).unwrap()
 }
 
 // How much the logger rises from x, which lies within the span, to its last end.

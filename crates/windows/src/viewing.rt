@@ -92,10 +92,9 @@ impl<L: Logger> Logger for Window<L> {
     }
 
     fn count(&self, x: u32) -> Option<u32> {
-        if x <= self.ending() - self.beginning() {
-            self.inner.count(self.beginning() + x)
-        } else {
-            None
+        if x > self.span() {
+            return None;
         }
+        self.inner.count(self.beginning() + x)
     }
 }
