@@ -1,5 +1,5 @@
 -- What follows from a take, and from the ticket that it gave being brought. Assumes nothing.
-use Rattle.std.proofs.Common.{◌≡◌, ℕ, ◌+◌, ◌-◌, Bool, true, false, cond, not, eqb, [], ◌∷◌, is_some, Some, None, Ok, Err, Option, sym, refl, ap, ◌∙◌, arith}
+use Rattle.std.proofs.Common.{◌≡◌, ℕ, ◌+◌, ◌-◌, Bool, true, false, cond, not, eqb, [], ◌∷◌, is_some, Some, None, Ok, Err, Option, Result, sym, refl, ap, ◌∙◌, subst, arith}
 use Rattle.std.specs.Option.{option_map, option_or}
 use Rattle.std.proofs.lemmas.Bool.{true≢false, and_from, and_parts, not-false, eq-eqb, eqb-true, eqb-false}
 use Rattle.denials.specs.Checks.{Decided}
@@ -29,6 +29,9 @@ accepted_so o x P Q is p = rw is p
 pub take_number : (o : Option Denial) (e : Denial) (P : Ticket → Type 0) (Q : Type 0) → Decided told (option_map told o) (Err e) P Q → (option_map number o ≡ Some (number e)) × Q
 take_number (Some d) e P Q h = (ap (λ n. Some n.0) (sym h.0), h.1)
 take_number None e P Q h = absurd h
+
+pub take_failed : (o : Option Denial) (r : Result Ticket Denial) (e : Denial) (P : Ticket → Type 0) (Q : Type 0) → r ≡ Err e → Decided told (option_map told o) r P Q → (option_map number o ≡ Some (number e)) × Q
+take_failed o r e P Q is h = take_number o e P Q (subst (λ r. Decided told (option_map told o) r P Q) is h)
 
 -- so does a call that begins with it
 pub denied_first : (v : View) (x : ℕ) (rest : Option ℕ) (e : Denial) (P : Ticket → Type 0) (Q : Type 0) → Decided told (option_map told (take_denied v x)) (Err e) P Q → (option_or (option_map number (take_denied v x)) rest ≡ Some (number e)) × Q

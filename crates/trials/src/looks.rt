@@ -39,21 +39,15 @@ pub fn look_at(place: &Readout) -> Look
 pub fn number<T: Drop>(res: Result<T, Denial>) -> u8
     ensures { result ≡ elim res [ Ok _ ↦ 0 | Err d ↦ (told d).0 ] }
 {
-    match res {
-        Ok(_) => 0,
-        Err(denial) => denial.number(),
-    }
+    res.err().map_or(0, |denial| denial.number())
 }
 
 // Whether the answers, the questions left and the ticket out make up the budget.
 pub fn adds_up(look: Look, budget: u32) -> bool
     ensures { result ≡ (look.answers + look.left + tickets look.waiting == budget) }
 {
-    let out = match look.waiting {
-        Some(_) => 1,
-        None => 0,
-    };
-    look.answers as u64 + look.left as u64 + out == budget as u64
+    let out = u64::from(look.waiting.is_some());
+    u64::from(look.answers) + u64::from(look.left) + out == u64::from(budget)
 }
 
 // Whether the points are those of the pairs, each an argument with its value.
@@ -63,8 +57,8 @@ pub fn same_points(points: &[Point], pairs: &[(u32, u32)]) -> bool
     if points.len() != pairs.len() {
         return false;
     }
-    for i in 0..points.len() {
-        if points[i].at != pairs[i].0 || points[i].value != pairs[i].1 {
+    for (p, &(at, value)) in points.iter().zip(pairs) {
+        if *p != (Point { at, value }) {
             return false;
         }
     }

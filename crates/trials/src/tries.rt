@@ -12,7 +12,7 @@ use super::looks::{Look, look_at};
 use denials::Denial;
 use readout::{Readout, Returned, Ticket};
 
-// What a ticket is brought to a readout for.
+// What a ticket is brought to a readout for: its two calls by name, which an Option of the value would hide.
 #[derive(Clone, Copy)]
 pub enum Purpose {
     // to be answered with this value
@@ -25,16 +25,12 @@ pub enum Purpose {
 pub fn try_ask(place: &mut Readout, x: u32, purpose: Purpose) -> Result<(), Denial>
     ensures { Decided number (try_denied (view place.old) x (taken (view place.old) x) purpose) result (λ _. view place.new ≡ brought (taken (view place.old) x) x purpose) (view place.new ≡ view place.old) }
 {
-    match place.take(x) {
-        Err(denial) => Err(denial),
-        Ok(ticket) => match bring(place, ticket, purpose) {
-            Ok(()) => Ok(()),
-            Err(Returned { denial, ticket }) => {
-                put_back(place, ticket);
-                Err(denial)
-            }
-        },
+    let ticket = place.take(x)?;
+    if let Err(Returned { denial, ticket }) = bring(place, ticket, purpose) {
+        put_back(place, ticket);
+        return Err(denial);
     }
+    Ok(())
 }
 
 // Takes a ticket for x from its owner and brings it to another readout. Where it is denied, the owner takes it back.
@@ -46,16 +42,12 @@ pub fn try_foreign(
 ) -> Result<(), Denial>
     ensures { Decided number (try_denied (view owner.old) x (view other.old) purpose) result (λ _. (view owner.new ≡ taken (view owner.old) x) × (view other.new ≡ brought (view other.old) x purpose)) ((view owner.new ≡ view owner.old) × (view other.new ≡ view other.old)) }
 {
-    match owner.take(x) {
-        Err(denial) => Err(denial),
-        Ok(ticket) => match bring(other, ticket, purpose) {
-            Ok(()) => Ok(()),
-            Err(Returned { denial, ticket }) => {
-                put_back(owner, ticket);
-                Err(denial)
-            }
-        },
+    let ticket = owner.take(x)?;
+    if let Err(Returned { denial, ticket }) = bring(other, ticket, purpose) {
+        put_back(owner, ticket);
+        return Err(denial);
     }
+    Ok(())
 }
 
 // The same while the other readout waits for y: its own ticket is withdrawn in the end.
@@ -68,20 +60,14 @@ pub fn try_crossed(
 ) -> Result<(), Denial>
     ensures { Decided number (cross_denied (view owner.old) x (view other.old) y purpose) result (λ _. (view owner.new ≡ view owner.old) × (view other.new ≡ brought (taken (view other.old) y) x purpose)) ((view owner.new ≡ view owner.old) × (view other.new ≡ view other.old)) }
 {
-    match other.take(y) {
-        Err(denial) => Err(denial),
-        Ok(own) => match try_foreign(owner, x, other, purpose) {
-            Ok(()) => {
-                // the two tickets are alike, so that the one left over is the owner's
-                put_back(owner, own);
-                Ok(())
-            }
-            Err(denial) => {
-                put_back(other, own);
-                Err(denial)
-            }
-        },
+    let own = other.take(y)?;
+    if let Err(denial) = try_foreign(owner, x, other, purpose) {
+        put_back(other, own);
+        return Err(denial);
     }
+    // the two tickets are alike, so that the one left over is the owner's
+    put_back(owner, own);
+    Ok(())
 }
 
 // Takes a ticket for x, tries to take another for y, and withdraws the first. Says why there was no second.
@@ -91,13 +77,11 @@ pub fn second_take(place: &mut Readout, x: u32, y: u32) -> Denial
 {
     match place.take(x) {
         Err(denial) => denial,
-        Ok(first) => match place.take(y) {
-            Err(denial) => {
-                put_back(place, first);
-                denial
-            }
-            Ok(_second) => unreachable(),
-        },
+        Ok(first) => {
+            let denial = place.take(y).unwrap_err();
+            put_back(place, first);
+            denial
+        }
     }
 }
 
@@ -106,20 +90,14 @@ pub fn second_take(place: &mut Readout, x: u32, y: u32) -> Denial
 pub fn look_around(place: &mut Readout, x: u32, purpose: Purpose) -> Result<(Look, Look), Denial>
     ensures { Decided number (option_map number (take_denied (view place.old) x)) result (λ looks. Around (view place.old) x purpose looks (view place.new)) (view place.new ≡ view place.old) }
 {
-    match place.take(x) {
-        Err(denial) => Err(denial),
-        Ok(ticket) => {
-            let before = look_at(place);
-            match bring(place, ticket, purpose) {
-                Ok(()) => Ok((before, look_at(place))),
-                Err(Returned { denial: _, ticket }) => {
-                    let after = look_at(place);
-                    put_back(place, ticket);
-                    Ok((before, after))
-                }
-            }
-        }
+    let ticket = place.take(x)?;
+    let before = look_at(place);
+    let brought = bring(place, ticket, purpose);
+    let after = look_at(place);
+    if let Err(Returned { denial: _, ticket }) = brought {
+        put_back(place, ticket);
     }
+    Ok((before, after))
 }
 
 // Answers or withdraws the ticket.
@@ -137,8 +115,5 @@ fn put_back(place: &mut Readout, ticket: Ticket)
     requires { not_out (view place.old) ticket ≡ false }
     ensures { view place.new ≡ withdrawn (view place.old) }
 {
-    match place.withdraw(ticket) {
-        Ok(()) => {}
-        Err(_returned) => unreachable(),
-    }
+    place.withdraw(ticket).unwrap();
 }
