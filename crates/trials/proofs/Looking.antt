@@ -9,7 +9,7 @@ use Rattle.readout.specs.Views.{View}
 use Rattle.trials.specs.declared.looks.Look.{Look}
 use Rattle.trials.specs.declared.tries.Purpose.{Purpose}
 use Rattle.trials.specs.Looks.{seen, AroundBy, Around}
-use Rattle.trials.specs.Tries.{number_back, bring_denied, brought}
+use Rattle.trials.specs.Tries.{number_back, bring_denied}
 use Rattle.trials.proofs.Trying.{Gave}
 
 by_number : (o : Option Returned) (n : ℕ) (v : View) (x : ℕ) (p : Purpose) (looks : Look × Look) (w : View) → option_map number_back o ≡ Some n → looks ≡ (seen (taken v x), seen (taken v x)) → w ≡ v → AroundBy o v x p looks w
@@ -20,12 +20,6 @@ module _ {v : View} {x : ℕ} {t : Ticket} {u : View} (g : Gave v x t u) (p : Pu
   -- the ticket was brought at the view after the take
   there : bring_denied (taken v x) (ticket_of v.mark x) p ≡ bring_denied u t p
   there = sym (λ i. bring_denied (g.out i) (g.ticket i) p)
-
-  -- a ticket that was accepted
-  pub around_ok : (b : View) → bring_denied u t p ≡ None → before ≡ seen u → after ≡ seen b → b ≡ brought u t.at p → Around v x p (before, after) b
-  around_ok b none e f h =
-      let is = h ∙ (λ i. brought (g.out i) (g.ticket i).at p) in
-      rw (there ∙ none) (λ i. ((e ∙ ap seen g.out) i, (f ∙ ap seen is) i), is)
 
   -- a ticket that came back
   pub around_err : (w : View) (n : ℕ) → option_map number_back (bring_denied u t p) ≡ Some n → before ≡ seen u → after ≡ seen u → w ≡ v → Around v x p (before, after) w

@@ -1,18 +1,10 @@
 -- Points against pairs of numbers. Assumes nothing.
-use Rattle.std.proofs.Common.{◌≡◌, ℕ, ◌<◌, List, map, length, get_or, sym, ap, ◌∙◌}
+use Rattle.std.proofs.Common.{◌≡◌, ℕ, ◌<◌, List, map, length, get_or, sym, ◌∙◌}
 use Rattle.std.proofs.lemmas.List.{length-map, get_or-map, ext_get_or}
 use Rattle.tables.specs.declared.points.Point.{Point}
 use Rattle.trials.specs.Looks.{point_of}
 
 module _ (ps : List Point) (qs : List (ℕ × ℕ)) where
-  -- equal rows are equally long
-  pub same_length : ps ≡ map point_of qs → length ps ≡ length qs
-  same_length e = ap length e ∙ length-map qs point_of
-
-  -- equal rows have the same point at every place
-  pub same_at : (i : ℕ) → i < length qs → ps ≡ map point_of qs → get_or ps i (point_of (0, 0)) ≡ point_of (get_or qs i (0, 0))
-  same_at i h e = ap (λ (rs : List Point). get_or rs i (point_of (0, 0))) e ∙ get_or-map point_of qs i (0, 0) (point_of (0, 0)) h
-
   -- rows of one length that have the same point at every place are equal
   pub all_same : length ps ≡ length qs → ((k : ℕ) → k < length ps → get_or ps k (point_of (0, 0)) ≡ point_of (get_or qs k (0, 0))) → ps ≡ map point_of qs
   all_same n each =

@@ -132,17 +132,10 @@ came_back (Some d) back t P Q is h =
       h.1,
     )
 
-went : (o : Option Returned) (P : Unit {0} → Type 0) (Q : Type 0) → Decided told_back (option_map told_back o) (Ok tt) P Q → (o ≡ None) × P tt
-went (Some d) P Q h = absurd h
-went None P Q h = (refl, h)
-
 -- a ticket brought at the view w
 module _ (w : View) (t : Ticket) (p : Purpose) (P : Unit {0} → Type 0) (Q : Type 0) where
   pub comes_back : (back : Returned) → Decided told_back (option_map told_back (bring_denied w t p)) (Err back) P Q → CameBack (bring_denied w t p) back t × Q
   comes_back back h = came_back (bring_denied w t p) back t P Q (back_is w t p) h
-
-  pub goes : Decided told_back (option_map told_back (bring_denied w t p)) (Ok tt) P Q → (bring_denied w t p ≡ None) × P tt
-  goes h = went (bring_denied w t p) P Q h
 
 -- once the ticket is given, only the bringing can be denied
 pub then_brought : {v : View} {x : ℕ} {t : Ticket} {u : View} (g : Gave v x t u) (w w' : View) (p : Purpose) → w' ≡ w → try_denied v x w p ≡ option_map number_back (bring_denied w' t p)
