@@ -6,6 +6,7 @@ ghost use Rattle.exports.specs.Denied.{denied, reply_of};
 use denials::Denial;
 
 // A denial's number, or 0 and the figures: how many answers they rest on, and two limits.
+// A plain record of numbers, since no enum passes to C.
 #[derive(Clone, Copy)]
 #[repr(C)]
 pub struct Reply {

@@ -55,7 +55,7 @@ pub extern "C" fn sealed_climate_run(
     tell(counter_over(readings, span).and_then(|counter| run_on(&counter, way, questions)))
 }
 
-// The plan that C asks for.
+// The plan that C asks for by a flag, since no enum passes to it.
 fn way_of(widest: bool) -> Way
     ensures { result ≡ way_of widest }
 {

@@ -13,6 +13,7 @@ fn main(rt: HostRuntime) -> anyhow::Result<ExitCode> {
     // one byte more than a sheet may have, so that a longer one is seen to be longer
     let mut bytes = [0; 2_049];
     let sheet = read_up_to(&mut rt.stdin(), &mut bytes)?;
+    // the room that every sheet is sure to have enough of
     let mut out = [0; 36_864];
     let Ok(written) = run_sheet(sheet, &mut out) else {
         return Ok(ExitCode::FAILURE);

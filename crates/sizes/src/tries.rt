@@ -26,7 +26,7 @@ pub struct Tried {
     pub both: Both,
 }
 
-// Tries the table logger of these values.
+// Tries the table logger of these values. Each kind of logger is made of rows of its own, so each has a call of its own.
 pub fn try_table(values: &[u32]) -> Result<Tried, Denial>
     ensures { Decided told (try_denied (table_denied values.now) (length values.now - 1)) result (TriedOn (row_table values.now) (length values.now - 1)) (Unit {0}) }
 {
