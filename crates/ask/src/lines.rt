@@ -5,7 +5,7 @@ ghost use Rattle.ask.specs.declared.lines.Unread.TheVariants.{Memory, Unclear};
 use plans::Way;
 use std::alloc::{AllocError, AllocFailed};
 
-// What a line asks for.
+// What a line asks for: of any number of values, where a line of a job sheet has at most 64.
 #[derive(Drop)]
 pub enum Line {
     // the span and the rise of a diagonal

@@ -40,6 +40,7 @@ impl<P: Plan> Plan for Noting<P> {
     {
         let answer = self.plan.next(log);
         if let Some(at) = answer {
+            // there is room: a run asks at most 254
             let _ = self.questions.try_push(at);
         }
         answer

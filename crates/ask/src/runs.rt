@@ -20,7 +20,7 @@ use plans::Way;
 #[derive(Drop)]
 pub struct Report {
     pub answers: ArrayVec<Answer, 254>,
-    // by the run, whose contract does not tell what a plan noted
+    // counted by the run: its contract says nothing of the row that the plan kept
     pub asked: u32,
     pub limits: Limits,
     pub promise: u64,
@@ -40,7 +40,7 @@ pub fn run_on<L: Logger>(logger: &L, way: Way, questions: u32) -> Result<Report,
     })
 }
 
-// What the logger counts at each of these questions.
+// What the logger counts at each of these questions: a loop, since `extend` gives a Result where there is room for all.
 fn answers_at<L: Logger>(logger: &L, questions: &[u32]) -> ArrayVec<Answer, 254>
     requires { length questions.now ≤ 254 }
     ensures { result.items ≡ map (answer_at (L.Logger.table logger.now) (L.Logger.extent logger.now)) questions.now }

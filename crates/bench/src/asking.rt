@@ -17,7 +17,7 @@ pub(crate) fn ask_one<L: Logger>(logger: &L, place: &mut Readout, x: u32)
     place.answer(ticket, value).unwrap();
 }
 
-// Asks while questions are left, each the plan's answer for the log so far.
+// Asks while questions are left, each the plan's answer for the log so far. The plan is lent, so it says that it means the same.
 pub(crate) fn ask_all<L: Logger, P: Plan>(logger: &L, plan: &mut P, place: &mut Readout)
     requires { Started (L.Logger.table logger.now) (L.Logger.extent logger.now) (view place.old) }
     ensures same { P.Plan.asks plan.new ≡ P.Plan.asks plan.old }

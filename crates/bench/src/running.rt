@@ -13,7 +13,7 @@ use loggers::Logger;
 use plans::Plan;
 use readout::{Readout, Summary};
 
-// What an accepted run gives: how many questions it asked, and the limits.
+// What an accepted run gives: how many questions it asked, and the limits. Users read all three by name.
 #[derive(Clone, Copy)]
 pub struct Ran {
     pub asked: u32,

@@ -1,4 +1,4 @@
-// An answer that a program has from a logger: at the argument `at` it gave `value`.
+// An answer that a program has from a logger: at the argument `at` it gave `value`, laid out as C lays it out.
 #[derive(Clone, Copy)]
 #[repr(C)]
 pub struct Answer {

@@ -53,7 +53,7 @@ fn take_all(
     })
 }
 
-// Takes the answers into a readout in their order.
+// Takes the answers into a readout in their order, by place: one past the end of the widths is taken in too.
 fn ask_all(place: &mut Readout, answers: &[Answer], widths: &mut [u64])
     ensures { (view place.new, widths.new) ≡ asked_all (view place.old, widths.old) 0 answers.now }
 {

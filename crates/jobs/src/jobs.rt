@@ -1,4 +1,4 @@
-// What a line of a sheet can ask for.
+// What a line of a sheet can ask for. It cannot be copied, as the values that it keeps cannot.
 use arrayvec::ArrayVec;
 use plans::Way;
 

@@ -29,7 +29,7 @@ pub fn read_line(text: &str) -> Result<Option<Line>, Fault<'_>>
     line_of(numbers.as_slice(), more)
 }
 
-// The numbers of a line, up to three, and how many more there are.
+// The numbers of a line, up to three, and how many more there are: with no heap, so that no line fails for memory.
 fn numbers(text: &str) -> Result<(ArrayVec<u32, 3>, usize), Fault<'_>>
     ensures { MatchResult result (λ r. 0 < r.1 → length r.0.items ≡ 3) NotCount }
 {

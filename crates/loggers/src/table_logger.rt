@@ -1,4 +1,4 @@
-// The table logger: a place for a table of a lent row of values, which can be filled anew.
+// The table logger: a place for a table of a lent row of values, which can be filled anew, as a kept table cannot.
 ghost use Rattle.std.specs.Prelude.{◌≡◌, ◌-◌, [], ◌∷◌, length};
 ghost use Rattle.std.proofs.Common.{arith};
 ghost use Rattle.denials.specs.Told.{told};

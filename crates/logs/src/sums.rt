@@ -15,6 +15,7 @@ impl Log {
     {
         let mut low = 0;
         let mut high = 0;
+        // one loop for both limits, since a fold would carry a pair:
         // inside a gap, the low limit has the value before it throughout, the high one that after it
         for &[p, q] in self.points().array_windows::<2>() {
             let inner = u64::from(q.at - p.at - 1);

@@ -53,7 +53,7 @@ impl From<Returned> for Refusal {
     }
 }
 
-// The limits of the sum, and the number of answers that they rest on.
+// The limits of the sum, and the number of answers that they rest on. Users read all three by name.
 #[derive(Clone, Copy)]
 pub struct Summary {
     pub low: u64,

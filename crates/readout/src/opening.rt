@@ -45,7 +45,7 @@ impl Readout {
     }
 }
 
-// The first check of an opening that fails.
+// The first check of an opening that fails: the log's own two, and the budget, before anything changes.
 fn check_opening(span: u32, first: u32, last: u32, budget: u32) -> Result<(), Denial>
     ensures { result_err result ≡ open_denied span first last budget }
 {

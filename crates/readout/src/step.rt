@@ -17,7 +17,8 @@ use logs::Log;
 use tables::Point;
 
 impl Readout {
-    // Does what the event asks, or says why not and changes nothing.
+    // Does what the event asks, or says why not and changes nothing. One match on what is out and on the event:
+    // the project fixes this form.
     pub fn step(&mut self, event: Event) -> Result<Outcome, Refusal>
         ensures moves { (view self.new, result) ≡ stepped (view self.old) event }
         ensures keeps { changes result ≡ false → self.new ≡ self.old }
@@ -32,6 +33,7 @@ impl Readout {
                 Ok(Outcome::Given(Ticket::new(self.mark, x)))
             }
             (Some(x), Event::Answer(ticket, value)) if self.gave(&ticket, x) => {
+                // no map_err: a closure that is never called would let the ticket lapse
                 if let Err(denial) = note(&mut self.log, Point { at: x, value }) {
                     return Err(Returned { denial, ticket }.into());
                 }

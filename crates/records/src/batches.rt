@@ -35,7 +35,7 @@ impl fmt::Display for BadLine {
 pub struct Batch<T> {
     readings: Vec<T>,
     bad: Vec<BadLine>,
-    // neither row tells it: a header goes into none
+    // not to be told from the two rows: a header goes into neither
     begun: bool,
 }
 

@@ -17,7 +17,8 @@ pub(crate) fn run_plan<L: Logger>(logger: &L, way: Way, questions: u32) -> Resul
 {
     let mut plan = way.plan(questions)?;
     let (ran, _) = read_out(logger, &mut plan, questions)?;
-    let _last = logger.last(); // of 32 bits, so that the limits have at most 16 digits
+    // asked for the proof alone: a last value of 32 bits bounds the limits to 16 digits
+    let _last = logger.last();
     Ok(Report {
         way,
         span: logger.span(),

@@ -48,6 +48,7 @@ fn print_lines(sheet: &[u8], out: &mut [u8]) -> usize
     ensures row { out.new ≡ begun (sheet_prints sheet.now) out.old }
 {
     let mut set = None;
+    // goes along with the lines, so that a word keeps its place on the whole sheet
     let mut cursor = Cursor { sheet, at: 0 };
     let mut written = 0;
     for (index, line) in sheet.split_inclusive(|byte| *byte == b'\n').enumerate() {

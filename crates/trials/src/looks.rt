@@ -35,7 +35,7 @@ pub fn look_at(place: &Readout) -> Look
     }
 }
 
-// The number of the denial, or 0 where the call was accepted.
+// The number of the denial, or 0 where the call was accepted: tests compare numbers, as users know them.
 pub fn number<T: Drop>(res: Result<T, Denial>) -> u8
     ensures { result ≡ elim res [ Ok _ ↦ 0 | Err d ↦ (told d).0 ] }
 {

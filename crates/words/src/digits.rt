@@ -2,7 +2,7 @@
 ghost use Rattle.std.specs.Prelude.{◌≡◌, ◌^◌, ◌<◌, ◌≤◌, length, decimal};
 ghost use Rattle.words.specs.Writing.{begun};
 
-// The powers of ten from 10^0 to 10^15.
+// The powers of ten from 10^0 to 10^15: a constant table, as the project fixes it.
 const POWERS: [u64; 16] = [
     1,
     10,
@@ -32,7 +32,8 @@ fn digit_count(n: u64) -> usize
     larger.unwrap_or(POWERS.len()).max(1)
 }
 
-// Writes a number's digits into the first places of a row, and gives how many they are.
+// Writes a number's digits into the first places of a row, and gives how many they are. By place, since nothing is
+// known of a row's elements where its `iter_mut` goes through a `zip`.
 pub(crate) fn write_digits(n: u64, out: &mut [u8]) -> usize
     requires short { n < 10 ^ 16 }
     requires fits { length (decimal n) ≤ length out.old }

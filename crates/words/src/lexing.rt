@@ -5,7 +5,8 @@ ghost use Rattle.words.specs.Borrowed.{lexeme, lexemes};
 
 use crate::numbers::number_of;
 
-// A word of a sheet: its bytes, as a part of the sheet, and its place.
+// A word of a sheet: its bytes, as a part of the sheet, and its place. Each case borrows its part of the sheet:
+// the project fixes this form.
 #[derive(Clone, Copy)]
 pub enum Word<'a> {
     Letter(&'a [u8], usize),

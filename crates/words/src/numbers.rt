@@ -3,7 +3,7 @@ ghost use Rattle.std.specs.Prelude.{◌≡◌, ◌≤◌, length, if◌then◌el
 ghost use Rattle.std.specs.Str.{all_ascii_digits};
 ghost use Rattle.words.specs.Numbers.{digits_value, number_of, NumbersAreDecimal, ReadsBack};
 
-// The number that at most ten digits write; none where a byte is no digit.
+// The number that at most ten digits write; none where a byte is no digit. By hand, since `parse` reads a text.
 fn digits_value(word: &[u8]) -> Option<u64>
     requires { length word.now ≤ 10 }
     ensures { result ≡ (if all_ascii_digits word.now then Some (digits_value word.now) else None) }

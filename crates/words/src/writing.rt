@@ -21,7 +21,8 @@ fn has_room(numbers: &[u64], out: &[u8]) -> bool
     out.len() >= 2 && numbers.len() <= (out.len() - 2) / 17 && all_short(numbers)
 }
 
-// Writes each number after a space into the first places of a row, and gives how many bytes that takes.
+// Writes each number after a space into the first places of a row, and gives how many bytes that takes. A lent row
+// with the end beside it, since the library takes no memory from a heap.
 fn write_spaced(numbers: &[u64], out: &mut [u8]) -> usize
     requires short { all_short numbers.now ≡ true }
     requires fits { 17 * length numbers.now ≤ length out.old }

@@ -19,7 +19,7 @@ fn ones_of(words: &[u64]) -> u32
     words.iter().map(|word| word.count_ones()).sum()
 }
 
-// How many ones stand among the first x bits of a row of words.
+// How many ones stand among the first x bits of a row of words: whole words and a masked last one, as the project fixes it.
 fn ones_before(words: &[u64], x: u32) -> u32
     requires { x ≤ 64 * length words.now }
     ensures { result ≡ strip_table words.now x }
