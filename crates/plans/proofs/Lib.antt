@@ -2,4 +2,5 @@ pub mod Neighbours
 pub mod Widening
 pub mod Lowest
 pub mod Cuts
+pub mod Ahead
 pub mod Windows

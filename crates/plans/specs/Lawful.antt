@@ -22,7 +22,7 @@ lacks : (x : ℕ) (p : Point) (ps : List Point) → (x ≢ p.at) → has x ps �
 lacks x p ps ne h = cond-false _ _ _ (ne_eqb x p.at ne) ∙ h
 
 -- an argument before the first point is no point's, and lies before the last point
-lacks_before : (p : Point) (ps : List Point) (x : ℕ) → Rising p ps → x < p.at → (has x (p ∷ ps) ≡ false) × (x < (last_of p ps).at)
+pub lacks_before : (p : Point) (ps : List Point) (x : ℕ) → Rising p ps → x < p.at → (has x (p ∷ ps) ≡ false) × (x < (last_of p ps).at)
 lacks_before p [] x r h = (cond-false _ _ _ (ne_eqb x p.at (λ e. omega arith)), h)
 lacks_before p (q ∷ ps) x r h =
     let t = lacks_before q ps x r.2 (omega (arith, r.0)) in

@@ -1,3 +1,4 @@
+pub mod Ahead
 pub mod Gaps
 pub mod Widest
 pub mod Meanings

@@ -5,13 +5,15 @@ ghost use Rattle.denials.specs.Told.{told};
 ghost use Rattle.logs.specs.Points.{points};
 ghost use Rattle.tables.proofs.Spacing.{spacing_is_lawful};
 ghost use Rattle.tables.specs.Log.{span_of};
-ghost use Rattle.tables.specs.Plan.{unknown, first_unknown, stops, equal_spacing};
+ghost use Rattle.tables.specs.Plan.{first_unknown, stops, equal_spacing};
+ghost use Rattle.plans.specs.Ahead.{ahead, begins_at};
 ghost use Rattle.plans.specs.Meanings.{spacing_of};
 
 use super::asking::Plan;
 use super::fallback::lowest_unknown;
 use denials::Denial;
 use logs::Log;
+use tables::Point;
 
 #[derive(Clone, Copy)]
 pub struct EqualSpacing {
@@ -41,19 +43,42 @@ impl Plan for EqualSpacing {
 }
 
 // The first unknown of the arguments that cut the span into one part more than there are questions.
+// Stops and points both rise, so they are gone through side by side, and once.
+#[tactic(auto, using(crate::proofs::Cuts::all_stops, crate::proofs::Cuts::stop_none, crate::proofs::Cuts::stop_passed, crate::proofs::Cuts::stop_later, crate::proofs::Ahead::stop_unknown, crate::proofs::Ahead::ahead_later))]
 fn first_stop(log: &Log, questions: u32) -> Option<u32>
     ensures { result ≡ first_unknown (points log.now) (stops (span_of (points log.now)) questions) }
 {
     let span = u64::from(log.span());
     let parts = u64::from(questions) + 1;
-    (1..parts)
-        .map(|j| (j * span / parts) as u32)
-        .find(|at| is_unknown(log, *at))
+    let mut left = log.points();
+    for j in 1..parts {
+        let at = (j * span / parts) as u32;
+        left = not_below(left, at);
+        if !begins_at(left, at) {
+            return Some(at);
+        }
+    }
+    None
 }
 
-// Whether the argument is an inner one and not in the log.
-fn is_unknown(log: &Log, at: u32) -> bool
-    ensures { result ≡ unknown (points log.now) at }
+// The points from the first on that is not below the argument.
+#[tactic(auto, using(crate::proofs::Ahead::ahead_empty, crate::proofs::Ahead::ahead_here, crate::proofs::Ahead::ahead_past))]
+fn not_below(points: &[Point], at: u32) -> &[Point]
+    ensures { result.now ≡ ahead at points.now }
 {
-    at > 0 && at < log.span() && !log.has(at)
+    let mut left = points;
+    while let Some((p, rest)) = left.split_first() {
+        if p.at >= at {
+            return left;
+        }
+        left = rest;
+    }
+    left
+}
+
+// Whether the first of the points is at the argument.
+fn begins_at(points: &[Point], at: u32) -> bool
+    ensures { result ≡ begins_at at points.now }
+{
+    points.first().is_some_and(|p| p.at == at)
 }
