@@ -45,11 +45,6 @@ pub position_falls : (vs : List ℕ) → option_map (λ i. i + 1) (position fall
 position_falls [] = refl
 position_falls (v ∷ vs) = ap (option_map (λ i. i + 1)) (position_from-zero falls_at (pairs (v ∷ vs))) ∙ place_from 0 v vs
 
--- what is not some is none
-pub not_some : (o : Option ℕ) → false ≡ is_some o → None ≡ o
-not_some None e = refl
-not_some (Some i) e = absurd (cc)
-
 -- before a row that never falls may stand a value that is above none of it
 never_falls_more : (v : ℕ) (vs : List ℕ) → ((j : ℕ) → j < length vs → v ≤ row_table vs j) → RowNeverFalls vs → RowNeverFalls (v ∷ vs)
 never_falls_more v vs low h zero zero p q = omega arith

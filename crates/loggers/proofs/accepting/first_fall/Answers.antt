@@ -1,16 +1,14 @@
-use Rattle.std.proofs.Common.{◌≡◌, ◌+◌, None, rules, ap, ◌∙◌}
+use Rattle.std.proofs.Common.{◌≡◌, ◌+◌, rules, ap, ◌∙◌}
 use Rattle.std.specs.List.{position}
 use Rattle.std.specs.Option.{option_map}
 use Rattle.std.proofs.lemmas.Iterator.Search.{position_from_yields_List}
 use Rattle.loggers.specs.Makings.{first_fall}
-use Rattle.loggers.proofs.Falls.{falls_at, position_falls, not_some, told_none}
+use Rattle.loggers.proofs.Falls.{falls_at, position_falls, told_none}
 use Rattle.loggers.proofs.Pairs.{pairs, windows_pair}
 use Rattle.loggers.proofs.accepting.first_fall.Goals as goal
 
-pub returns-then-not-falls : goal.returns-then-not-falls
-returns-then-not-falls c =
-    let none : None ≡ first_fall c.args.values.now = not_some (first_fall c.args.values.now) c.if-not-falls.ensures in
-    record { place = none; never = told_none _ _ none }
+pub returns-then-not-falls-clause-never : goal.returns-then-not-falls-clause-never
+returns-then-not-falls-clause-never c = told_none c.args.values.now _ (search rules)
 
 pub returns : goal.returns
 returns c =
