@@ -26,15 +26,14 @@ pub overflow_sub-result : goal.overflow_sub-result
 overflow_sub-result g c =
     omega (arith, in_order (g.P.Plan.asks c.args.plan.now) (g.P.Plan.lawful c.args.plan.now) c.args.span c.args.rise c.args.budget (length c.args.low_table.now) (length c.args.high_table.now) _ c.in_ok-diagonal.ensures _ c.read_out.ensures.decided _ c.unwrap.ensures)
 
-pub returns : goal.returns
-returns g c =
+pub returns-clause-decided : goal.returns-clause-decided
+returns-clause-decided g c =
     let low = row (g.P.Plan.asks c.args.plan.now) (g.P.Plan.lawful c.args.plan.now) c.args.span c.args.rise c.args.budget (length c.args.low_table.now) (length c.args.high_table.now) _ c.in_ok-diagonal.ensures _ c.read_out.ensures.decided _ c.unwrap.ensures
     _ c.log.ensures low_table _ _ (omega arith) _ _ c.write_low.ensures in
     let high = row (g.P.Plan.asks c.args.plan.now) (g.P.Plan.lawful c.args.plan.now) c.args.span c.args.rise c.args.budget (length c.args.low_table.now) (length c.args.high_table.now) _ c.in_ok-diagonal.ensures _ c.read_out.ensures.decided _ c.unwrap.ensures
     _ c.log-2.ensures high_table _ _ (omega arith) _ _ c.write_high.ensures in
-    record {
-      decided = scored (g.P.Plan.asks c.args.plan.now) (g.P.Plan.lawful c.args.plan.now) c.args.span c.args.rise c.args.budget (length c.args.low_table.now) (length c.args.high_table.now) _ c.in_ok-diagonal.ensures _ c.read_out.ensures.decided _ c.unwrap.ensures
-          _ refl c.least_on.ensures _ _ _ _ low.1 high.1 _;
-      plan = c.read_out.ensures.plan;
-      guarantee = guarantee;
-    }
+    scored (g.P.Plan.asks c.args.plan.now) (g.P.Plan.lawful c.args.plan.now) c.args.span c.args.rise c.args.budget (length c.args.low_table.now) (length c.args.high_table.now) _ c.in_ok-diagonal.ensures _ c.read_out.ensures.decided _ c.unwrap.ensures
+    _ refl c.least_on.ensures _ _ _ _ low.1 high.1 _
+
+pub returns-clause-guarantee : goal.returns-clause-guarantee
+returns-clause-guarantee g c = guarantee
