@@ -1,8 +1,8 @@
 -- The limits of a mean are sharp. Assumes nothing.
-use Rattle.std.proofs.Common.{◌≡◌, ℕ, ◌+◌, ◌-◌, ◌*◌, ◌/◌, ◌%◌, ◌^◌, ◌<◌, ◌≤◌, min, List, length, ℤ, pos, ◌-ℤ◌, ◌≤ℤ◌, Some, sym, refl, ◌∙◌, mul-le-mul, div-le_self, arith}
+use Rattle.std.proofs.Common.{◌≡◌, ℕ, ◌+◌, ◌-◌, ◌/◌, ◌%◌, ◌<◌, min, List, length, ℤ, pos, ◌-ℤ◌, ◌≤ℤ◌, Some, sym, refl, ◌∙◌, arith}
 use Rattle.std.proofs.lemmas.Bool.{cond-false, ne_eqb}
 use Rattle.logs.specs.declared.limits.Limits.{Limits}
-use Rattle.readout.specs.Levels.{levels, last_everywhere}
+use Rattle.readout.specs.Levels.{levels}
 use Rattle.tables.specs.declared.points.Point.{Point}
 use Rattle.tables.specs.Log.{IsLog, last_value, span_of, low_table, high_table}
 use Rattle.tables.specs.Table.{sum_of}
@@ -11,16 +11,6 @@ use Rattle.tables.proofs.Limits.{limits_are_sharp, tables_of_log}
 use Rattle.certificates.specs.declared.means.Mean.{Mean}
 use Rattle.certificates.specs.Means.{mean_of, Covers, SharpMean}
 use Rattle.certificates.proofs.Rounding.{rounded_up, low_covers, high_covers, low_tight, high_tight}
-
--- a product of no more is no more
-product_le : (a b c d : ℕ) → a ≤ b → c ≤ d → a * c ≤ b * d
-product_le a b c d p q = mul-le-mul p q
-
--- the last value of a log at every argument is small, and so is a quotient of what is no more
-pub quotient_small : (log : List Point) (last a b : ℕ) → last ≡ last_value log → last < 2 ^ 32 → span_of log ≤ 1000000 → a ≤ last_everywhere log → a / b + 1 < 2 ^ 63
-quotient_small log last a b is fits short le =
-    let h : last_everywhere log ≤ 2 ^ 32 * 1000001 = product_le (last_value log) (2 ^ 32) (span_of log + 1) 1000001 (omega arith) (omega arith) in
-    omega (arith, div-le_self a b)
 
 module _ (z : ℕ) (log : List Point) (is : IsLog (span_of log) log) (some : 0 < last_value log) where
   -- the mean of no agreeing table lies outside

@@ -20,7 +20,7 @@ pub fn mean_of_levels<T: OwnUnit>(readout: &Readout) -> Option<Mean>
     ensures is { result ≡ mean_of T.OwnUnit.zero (view readout.now).points }
     ensures sharp { MatchOption result (last_value (view readout.now).points ≡ 0) (SharpMean T.OwnUnit.zero (view readout.now).points) }
 {
-    let counted = readout.log().last() as u64;
+    let counted = u64::from(readout.log().last());
     if counted == 0 {
         return None;
     }
@@ -38,5 +38,5 @@ fn own_unit(level: u64, zero: u32) -> i64
     requires { level < 2 ^ 63 }
     ensures { result ≡ pos level -ℤ pos zero }
 {
-    level as i64 - zero as i64
+    level as i64 - i64::from(zero)
 }

@@ -1,25 +1,10 @@
-use Rattle.std.proofs.Common.{◌-◌, ◌≤◌, length, ap, ◌∙◌, arith, w64, SFits}
+use Rattle.std.proofs.Common.{◌-◌, length, ap, ◌∙◌, arith, w64, SFits}
 use Rattle.std.proofs.lemmas.Int.{to_z-of_z}
 use Rattle.logs.specs.Points.{points}
 use Rattle.logs.proofs.Sound.{is_log_lem}
-use Rattle.readout.specs.Levels.{last_everywhere}
 use Rattle.tables.specs.Log.{last_value}
-use Rattle.certificates.proofs.Sharp.{quotient_small, mean_so}
+use Rattle.certificates.proofs.Sharp.{mean_so}
 use Rattle.certificates.proofs.means.mean_of_levels.Goals as goal
-
-pub own_unit-requires : goal.own_unit-requires
-own_unit-requires g c =
-    let log = points c.args.readout.now.log in
-    let a = c.total_of_levels-total.result.low in
-    let le : a ≤ last_everywhere log = omega (arith, ap (λ l. l.low) c.total_of_levels-total.ensures.is) in
-    omega (arith, quotient_small log c.last-counted.result a c.last-counted.result (c.last-counted.ensures ∙ ap last_value c.log.ensures) (omega arith) c.args.readout.now.log.short le)
-
-pub own_unit-requires-2 : goal.own_unit-requires-2
-own_unit-requires-2 g c =
-    let log = points c.args.readout.now.log in
-    let a = c.total_of_levels-total.result.high in
-    let le : a ≤ last_everywhere log = omega (arith, ap (λ l. l.high) c.total_of_levels-total.ensures.is) in
-    omega (arith, c.div_ceil.ensures, quotient_small log c.last-counted.result a c.last-counted.result (c.last-counted.ensures ∙ ap last_value c.log.ensures) (omega arith) c.args.readout.now.log.short le)
 
 pub returns : goal.returns
 returns g c =
@@ -27,7 +12,7 @@ returns g c =
     let low : SFits w64 c.own_unit.result = record { sfits = c.own_unit.type_inv } in
     let high : SFits w64 c.own_unit-2.result = record { sfits = c.own_unit-2.type_inv } in
     let so = mean_so g.T.OwnUnit.zero log (is_log_lem log c.args.readout.now.log.sound)
-    c.last-counted.result (c.last-counted.ensures ∙ ap last_value c.log.ensures) (omega arith)
+    c.from-counted.result (c.from-counted.ensures ∙ c.last.ensures ∙ ap last_value c.log.ensures) (omega arith)
     c.total_of_levels-total.result c.total_of_levels-total.ensures.is
     c.zero_level-zero.result c.div_ceil.result c.zero_level-zero.ensures c.div_ceil.ensures
     _ (to_z-of_z w64 _ low ∙ c.own_unit.ensures) (to_z-of_z w64 _ high ∙ c.own_unit-2.ensures) (c.answers.ensures ∙ ap (λ l. length l - 2) c.log-2.ensures) in
