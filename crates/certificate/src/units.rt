@@ -77,7 +77,7 @@ impl<T: Certified> Amount<T> {
     pub fn of_level(level: u32) -> Amount<T>
         ensures { result.value ≡ of_level T.OwnUnit.zero level }
     {
-        Amount::new(level as i64 - T::zero_level() as i64)
+        Amount::new(i64::from(level) - i64::from(T::zero_level()))
     }
 }
 
