@@ -1,28 +1,45 @@
 -- What is ahead in a log tells which stops it has. Assumes nothing.
-use Rattle.std.proofs.Common.{◌≡◌, ℕ, ◌<◌, ◌≤◌, Bool, not, eqb, ltb, List, [], ◌∷◌, length, sym, refl, ap, ◌∙◌, ⊎_elim, arith}
+use Rattle.std.proofs.Common.{◌≡◌, ℕ, zero, suc, ◌<◌, ◌≤◌, Bool, true, false, not, eqb, ltb, List, [], ◌∷◌, length, drop, sym, refl, ap, ◌∙◌, subst, ⊎_elim, arith}
+use Rattle.std.specs.List.Sorted.{IsPartitionPoint}
 use Rattle.std.proofs.lemmas.Bool.{cases_lt, cond_both, cond-true, cond-false, lt-ltb, le-ltb, ltb-true, ne_eqb, eq-eqb}
+use Rattle.std.proofs.lemmas.List.Sorted.{IsNonDecreasingBy-drop}
 use Rattle.tables.specs.declared.points.Point.{Point}
 use Rattle.tables.specs.Log.{Rising, last_of, IsLog, span_of, has}
 use Rattle.tables.specs.Plan.{unknown}
 use Rattle.tables.proofs.Stops.{cut_at}
 use Rattle.logs.specs.declared.logs.Log.{Log}
 use Rattle.logs.specs.Points.{points}
+use Rattle.logs.proofs.Gaps.{at_up}
 use Rattle.logs.proofs.Sound.{points_are_log}
-use Rattle.plans.specs.Ahead.{ahead, begins_at}
+use Rattle.plans.specs.Ahead.{Rises, ahead, begins_at}
 use Rattle.plans.specs.Lawful.{lacks_before}
 use Rattle.plans.proofs.Cuts.{stop_below}
 
--- a row that is empty, or begins at x or above, is all ahead
-pub ahead_empty : (l : List Point) (x : ℕ) → length l ≡ 0 → l ≡ ahead x l
-ahead_empty [] x e = refl
-ahead_empty (p ∷ ps) x e = absurd (let z : ⊥ = omega arith in z)
+-- the place up to which arguments are below x is where what is ahead begins
+pub ahead_from : (l : List Point) (x k : ℕ) → k ≤ length l → IsPartitionPoint (λ (p : Point). ltb p.at x ≡ true) (λ p. ltb p.at x ≡ false) l k → drop k l ≡ ahead x l
+ahead_from [] x zero h s = refl
+ahead_from [] x (suc k) h s = absurd (let z : ⊥ = omega arith in z)
+ahead_from (p ∷ ps) x zero h s = sym (cond-false _ _ _ (s.1 0 p (omega arith) (omega arith)))
+ahead_from (p ∷ ps) x (suc k) h s =
+    ahead_from ps x k (omega arith) (λ i d le lt. s.0 (suc i) d (omega arith) (omega arith), λ i d le lt. s.1 (suc i) d (omega arith) (omega arith))
+    ∙ sym (cond-true _ _ _ (s.0 0 p (omega arith) (omega arith)))
 
-pub ahead_here : (l : List Point) (p : Point) (ps : List Point) (x : ℕ) → l ≡ p ∷ ps → x ≤ p.at → l ≡ ahead x l
-ahead_here l p ps x e h = rw e (sym (cond-false _ _ _ (le-ltb p.at x h)))
+-- the points of a log rise
+pub log_rises : (log : Log) (l : List Point) → l ≡ points log → Rises l
+unfolding Rises
+log_rises log l e = rw e (at_up (points log) (points_are_log log))
 
--- of one that begins below x, what is ahead is ahead in the rest
-pub ahead_past : (l : List Point) (p : Point) (ps : List Point) (x : ℕ) → l ≡ p ∷ ps → p.at < x → ahead x ps ≡ ahead x l
-ahead_past l p ps x e h = rw e (sym (cond-true _ _ _ (lt-ltb p.at x h)))
+-- and what is ahead in a row that rises does so too
+ahead_rises : (x : ℕ) (ps : List Point) → Rises ps → Rises (ahead x ps)
+unfolding Rises
+ahead_rises x [] r = r
+ahead_rises x (p ∷ ps) r =
+    cond_both (ltb p.at x) (ahead x ps) (p ∷ ps) Rises
+    (λ t. ahead_rises x ps (IsNonDecreasingBy-drop (λ (q : Point). q.at) 1 (p ∷ ps) r))
+    (λ f. r)
+
+pub left_rises : (l ps : List Point) (x : ℕ) → l ≡ ahead x ps → Rises ps → Rises l
+left_rises l ps x e r = subst Rises (sym e) (ahead_rises x ps r)
 
 -- what is ahead of a y that is not below x is ahead of x
 pub ahead_later : (x y : ℕ) (ps : List Point) → x ≤ y → ahead y (ahead x ps) ≡ ahead y ps

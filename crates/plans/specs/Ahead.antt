@@ -1,6 +1,11 @@
 -- The points of a row that are not below an argument. Assumes nothing.
 use Rattle.std.specs.Prelude.{ℕ, Bool, false, cond, List, [], ◌∷◌, ◌==◌, nat_lt}
+use Rattle.std.specs.List.Sorted.{IsNonDecreasingBy}
 use Rattle.tables.specs.declared.points.Point.{Point}
+
+-- the arguments of a row do not fall
+unfoldable pub Rises : List Point → Type 0
+Rises = IsNonDecreasingBy (λ p. p.at)
 
 -- the row from its first point on that is not below x
 abbrev pub ahead : ℕ → List Point → List Point

@@ -1,12 +1,12 @@
 // Equal spacing: asks the arguments that cut the span into even parts.
-ghost use Rattle.std.specs.Prelude.{◌≡◌, [], ◌∷◌, nat_lt};
+ghost use Rattle.std.specs.Prelude.{◌≡◌, ◌≤◌, [], ◌∷◌, drop, length, nat_lt};
 ghost use Rattle.denials.specs.Checks.{Decided, first};
 ghost use Rattle.denials.specs.Told.{told};
 ghost use Rattle.logs.specs.Points.{points};
 ghost use Rattle.tables.proofs.Spacing.{spacing_is_lawful};
 ghost use Rattle.tables.specs.Log.{span_of};
 ghost use Rattle.tables.specs.Plan.{first_unknown, stops, equal_spacing};
-ghost use Rattle.plans.specs.Ahead.{ahead, begins_at};
+ghost use Rattle.plans.specs.Ahead.{Rises, ahead, begins_at};
 ghost use Rattle.plans.specs.Meanings.{spacing_of};
 
 use super::asking::Plan;
@@ -43,8 +43,8 @@ impl Plan for EqualSpacing {
 }
 
 // The first unknown of the arguments that cut the span into one part more than there are questions.
-// Stops and points both rise, so they are gone through side by side, and once.
-#[tactic(auto, using(crate::proofs::Cuts::all_stops, crate::proofs::Cuts::stop_none, crate::proofs::Cuts::stop_passed, crate::proofs::Cuts::stop_later, crate::proofs::Ahead::stop_unknown, crate::proofs::Ahead::ahead_later))]
+// Stops and points both rise, so they are gone through side by side.
+#[tactic(auto, using(crate::proofs::Cuts::all_stops, crate::proofs::Cuts::stop_none, crate::proofs::Cuts::stop_passed, crate::proofs::Cuts::stop_later, crate::proofs::Ahead::stop_unknown, crate::proofs::Ahead::ahead_later, crate::proofs::Ahead::log_rises, crate::proofs::Ahead::left_rises))]
 fn first_stop(log: &Log, questions: u32) -> Option<u32>
     ensures { result ≡ first_unknown (points log.now) (stops (span_of (points log.now)) questions) }
 {
@@ -62,18 +62,24 @@ fn first_stop(log: &Log, questions: u32) -> Option<u32>
 }
 
 // The points from the first on that is not below the argument.
-#[tactic(auto, using(crate::proofs::Ahead::ahead_empty, crate::proofs::Ahead::ahead_here, crate::proofs::Ahead::ahead_past))]
+// In a run of the plan it is mostly the second, and only one further on is searched for.
 fn not_below(points: &[Point], at: u32) -> &[Point]
+    requires { Rises points.now }
     ensures { result.now ≡ ahead at points.now }
 {
-    let mut left = points;
-    while let Some((p, rest)) = left.split_first() {
-        if p.at >= at {
-            return left;
-        }
-        left = rest;
+    match points {
+        [p, q, ..] if q.at >= at => { if p.at >= at { points } else { &points[1..] } }
+        _ => &points[first_not_below(points, at)..],
     }
-    left
+}
+
+// The place of the first point that is not below the argument.
+fn first_not_below(points: &[Point], at: u32) -> usize
+    requires { Rises points.now }
+    ensures within { result ≤ length points.now }
+    ensures ahead { drop result points.now ≡ ahead at points.now }
+{
+    points.partition_point(|p| p.at < at)
 }
 
 // Whether the first of the points is at the argument.
