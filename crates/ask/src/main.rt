@@ -25,14 +25,16 @@ fn answer_lines(rt: &HostRuntime) -> anyhow::Result<()> {
     let mut session = Session::new();
     let lines = BufReader::new(rt.alloc(), rt.stdin())?.lines(rt.alloc());
     for (number, text) in (1u64..).zip(lines) {
-        match read_line(rt.alloc(), text?.as_str()) {
-            Ok(None) => {}
-            Ok(Some(line)) => match session.enter(line) {
-                Ok(done) => println!(rt; "line {number}: {done}")?,
-                Err(refusal) => println!(rt; "line {number}: {refusal}")?,
-            },
-            Err(Unread::Unclear(fault)) => println!(rt; "line {number}: refused: {fault}")?,
+        let text = text?;
+        let line = match read_line(rt.alloc(), text.as_str()) {
+            Ok(None) => continue,
+            Ok(Some(line)) => Ok(line),
+            Err(Unread::Unclear(fault)) => Err(fault),
             Err(Unread::Memory(error)) => return Err(error.into()),
+        };
+        match session.enter(line) {
+            Ok(done) => println!(rt; "line {number}: {done}")?,
+            Err(refusal) => println!(rt; "line {number}: {refusal}")?,
         }
     }
     Ok(())

@@ -17,7 +17,7 @@ use plans::Way;
 
 // What a run came to: its questions in their order with the logger's counts, how many they are, the limits of the sum,
 // and the width that no plan with as many questions undercuts on every table between the same ends.
-#[derive(Drop)]
+#[derive(Clone, Drop)]
 pub struct Report {
     pub answers: ArrayVec<Answer, 254>,
     // counted by the run: its contract says nothing of the row that the plan kept

@@ -1,11 +1,11 @@
 // A session: the logger that is set, and what each line does.
 ghost use Rattle.std.specs.Prelude.{◌≡◌};
 ghost use Rattle.denials.specs.Checks.{Decided};
-ghost use Rattle.ask.specs.declared.sessions.Refusal.TheVariants.{Denied as Denies};
+ghost use Rattle.ask.specs.declared.sessions.Refusal.TheVariants.{Denied as Denies, Unclear};
 ghost use Rattle.ask.specs.Setting.{held, nothing};
 ghost use Rattle.ask.specs.Entering.{why, stands, run_stands, Does, RanOn};
 
-use super::lines::Line;
+use super::lines::{Fault, Line};
 use super::runs::{Report, run_on};
 use denials::Denial;
 use loggers::{Chosen, Diagonal, KeptTable};
@@ -18,7 +18,7 @@ pub struct Session {
 }
 
 // What an accepted line did.
-#[derive(Drop)]
+#[derive(Clone, Drop)]
 pub enum Done {
     // a diagonal of this span and rise is set
     Diagonal(u32, u32),
@@ -30,17 +30,27 @@ pub enum Done {
 
 // Why a line was refused.
 #[derive(Clone, Copy)]
-pub enum Refusal {
+pub enum Refusal<'a> {
     Denied(Denial),
     // no logger is set
     NoLogger,
+    // the line cannot be read
+    Unclear(Fault<'a>),
 }
 
-impl From<Denial> for Refusal {
+impl From<Denial> for Refusal<'_> {
     ghost from_gives = { λ denial refusal. refusal ≡ Denies denial };
 
-    fn from(denial: Denial) -> Refusal {
+    fn from(denial: Denial) -> Self {
         Refusal::Denied(denial)
+    }
+}
+
+impl<'a> From<Fault<'a>> for Refusal<'a> {
+    ghost from_gives = { λ fault refusal. refusal ≡ Unclear fault };
+
+    fn from(fault: Fault<'a>) -> Self {
+        Refusal::Unclear(fault)
     }
 }
 
@@ -52,11 +62,11 @@ impl Session {
         Session { chosen: None }
     }
 
-    // Enters one line. A refused line changes nothing.
-    pub fn enter(&mut self, line: Line) -> Result<Done, Refusal>
-        ensures { Decided why (stands (held self.old.chosen) line) result (Does (held self.old.chosen) line (held self.new.chosen)) (self.new ≡ self.old) }
+    // Enters what reading a line gave. A refused line changes nothing.
+    pub fn enter<'a>(&mut self, line: Result<Line, Fault<'a>>) -> Result<Done, Refusal<'a>>
+        ensures { Decided why (stands (held self.old.chosen) line.entry) result (Does (held self.old.chosen) line.entry (held self.new.chosen)) (self.new ≡ self.old) }
     {
-        match line {
+        match line? {
             Line::Diagonal(span, rise) => {
                 let diagonal = Diagonal::new(span, rise)?;
                 self.chosen = Some(Chosen::Diagonal(diagonal));
@@ -73,7 +83,7 @@ impl Session {
     }
 
     // Runs a plan on the logger that is set.
-    fn run(&self, way: Way, questions: u32) -> Result<Report, Refusal>
+    fn run<'a>(&self, way: Way, questions: u32) -> Result<Report, Refusal<'a>>
         ensures { Decided why (run_stands (held self.now.chosen) questions) result (RanOn (held self.now.chosen) way questions) (Unit {0}) }
     {
         let Some(logger) = &self.chosen else {

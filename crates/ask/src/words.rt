@@ -64,7 +64,7 @@ impl fmt::Display for Fault<'_> {
 }
 
 // Why a line was refused.
-impl fmt::Display for Refusal {
+impl fmt::Display for Refusal<'_> {
     fn fmt<W: fmt::Write>(&self, f: &mut fmt::Formatter<W>) -> fmt::Result {
         match *self {
             Refusal::Denied(denial) => match denial {
@@ -72,6 +72,7 @@ impl fmt::Display for Refusal {
                 _ => write!(f, "{denial}"),
             },
             Refusal::NoLogger => write!(f, "refused: no logger is set yet"),
+            Refusal::Unclear(fault) => write!(f, "refused: {fault}"),
         }
     }
 }

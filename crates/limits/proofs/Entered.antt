@@ -24,12 +24,12 @@ refuses (Some d) e does P Q h = (ap (λ m. Err (refusal.Point m)) h.0, h.1)
 refuses None e does P Q h = absurd h
 
 module _ (o : Option Log) (log after : Log) (p : Point) (is : o ≡ Some log) where
-  pub taken : (Q : Type 0) → Decided {X = Unit {0}} (λ e. e) (misfit (points log) p) (Ok tt) (λ _. points after ≡ insert p (points log)) Q → (Ok (done.Taken p) ≡ said (points_of o) (line.Answer p)) × (Some (points after) ≡ kept (points_of o) (Ok (done.Taken p)))
+  pub taken : (Q : Type 0) → Decided {X = Unit {0}} (λ e. e) (misfit (points log) p) (Ok tt) (λ _. points after ≡ insert p (points log)) Q → (Ok (done.Taken p) ≡ said (points_of o) (Ok (line.Answer p))) × (Some (points after) ≡ kept (points_of o) (Ok (done.Taken p)))
   taken Q h =
       let met = accepts (misfit (points log) p) (done.Taken p) (points after ≡ insert p (points log)) Q h in
       rw is (met.0, ap Some met.1)
 
-  pub refused : (e : Misfit) (P : Type 0) → Decided {X = Unit {0}} (λ e. e) (misfit (points log) p) (Err e) (λ _. P) (after ≡ log) → (Err (refusal.Point e) ≡ said (points_of o) (line.Answer p)) × (Some (points after) ≡ kept (points_of o) (Err (refusal.Point e)))
+  pub refused : (e : Misfit) (P : Type 0) → Decided {X = Unit {0}} (λ e. e) (misfit (points log) p) (Err e) (λ _. P) (after ≡ log) → (Err (refusal.Point e) ≡ said (points_of o) (Ok (line.Answer p))) × (Some (points after) ≡ kept (points_of o) (Err (refusal.Point e)))
   refused e P h =
       let met = refuses (misfit (points log) p) e (done.Taken p) P (after ≡ log) h in
       rw is (met.0, ap (λ l. Some (points l)) met.1)

@@ -6,6 +6,7 @@ use Rattle.tables.specs.Theorems.{promise}
 use Rattle.logs.specs.declared.logs.Log.{Log}
 use Rattle.logs.specs.Fits.{bad_ends, misfit}
 use Rattle.logs.specs.Points.{points}
+use Rattle.limits.specs.declared.lines.Fault.{Fault}
 use Rattle.limits.specs.declared.lines.Line.{Line}
 use Rattle.limits.specs.declared.lines.Line.TheVariants as line
 use Rattle.limits.specs.declared.notes.Notes.{Notes}
@@ -29,12 +30,13 @@ abbrev pub or_refuse : {E : Type 0} → Option E → (E → Refusal) → Done �
 or_refuse (Some e) refuses does = Err (refuses e)
 or_refuse None refuses does = Ok does
 
--- what comes of a line, given the points known
-abbrev pub said : Option (List Point) → Line → Result Done Refusal
-said (Some log) (line.Ends n a b) = Err refusal.OpenedBefore
-said None (line.Ends n a b) = or_refuse (bad_ends n a b) refusal.Ends (done.Opened n a b)
-said (Some log) (line.Answer p) = or_refuse (misfit log p) refusal.Point (done.Taken p)
-said None (line.Answer p) = Err refusal.NotOpened
+-- what comes of what reading a line gave, given the points known
+abbrev pub said : Option (List Point) → Result Line Fault → Result Done Refusal
+said (Some log) (Ok (line.Ends n a b)) = Err refusal.OpenedBefore
+said None (Ok (line.Ends n a b)) = or_refuse (bad_ends n a b) refusal.Ends (done.Opened n a b)
+said (Some log) (Ok (line.Answer p)) = or_refuse (misfit log p) refusal.Point (done.Taken p)
+said None (Ok (line.Answer p)) = Err refusal.NotOpened
+said o (Err f) = Err (refusal.Unclear f)
 
 -- the points known after it
 abbrev pub kept : Option (List Point) → Result Done Refusal → Option (List Point)

@@ -15,13 +15,13 @@ fn main(rt: HostRuntime) -> io::Result<()> {
     let mut notes = Notes::new();
     let lines = BufReader::new(rt.alloc(), rt.stdin())?.lines(rt.alloc());
     for (number, text) in (1..=u64::MAX).zip(lines) {
-        match read_line(text?.as_str()) {
-            Ok(None) => {}
-            Ok(Some(line)) => match notes.enter(line) {
-                Ok(done) => println!(rt; "line {number}: {done}")?,
-                Err(refusal) => println!(rt; "line {number}: refused: {refusal}")?,
-            },
-            Err(fault) => println!(rt; "line {number}: refused: {fault}")?,
+        let text = text?;
+        let Some(line) = read_line(text.as_str()).transpose() else {
+            continue;
+        };
+        match notes.enter(line) {
+            Ok(done) => println!(rt; "line {number}: {done}")?,
+            Err(refusal) => println!(rt; "line {number}: refused: {refusal}")?,
         }
     }
     match notes.summary() {

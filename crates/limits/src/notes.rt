@@ -1,9 +1,9 @@
 // The answers so far, and what each line does to them.
-ghost use Rattle.std.specs.Prelude.{◌≡◌, None};
+ghost use Rattle.std.specs.Prelude.{◌≡◌, None, Ok};
 ghost use Rattle.limits.specs.Noted.{known, said, kept, Summed};
 ghost use Rattle.limits.specs.declared.notes.Refusal.TheVariants as refusals;
 
-use super::lines::Line;
+use super::lines::{Fault, Line};
 use logs::{BadEnds, Limits, Log, Misfit};
 use tables::Point;
 
@@ -22,11 +22,13 @@ pub enum Done {
 
 // Why a line led to nothing.
 #[derive(Clone, Copy, PartialEq, Eq, Debug)]
-pub enum Refusal {
+pub enum Refusal<'a> {
     Ends(BadEnds),
     OpenedBefore,
     NotOpened,
     Point(Misfit),
+    // the line cannot be read
+    Unclear(Fault<'a>),
 }
 
 // What the answers give in the end.
@@ -44,19 +46,19 @@ impl Notes {
         Notes { log: None }
     }
 
-    // Enters one line.
-    pub fn enter(&mut self, line: Line) -> Result<Done, Refusal>
-        ensures said { result ≡ said (known self.old) line }
+    // Enters what reading a line gave. A refused line changes nothing.
+    pub fn enter<'a>(&mut self, line: Result<Line, Fault<'a>>) -> Result<Done, Refusal<'a>>
+        ensures said { result ≡ said (known self.old) line.entry }
         ensures kept { known self.new ≡ kept (known self.old) result }
     {
-        match line {
+        match line? {
             Line::Ends { span, first, last } => self.start(span, first, last),
             Line::Answer(point) => self.take_in(point),
         }
     }
 
-    fn start(&mut self, span: u32, first: u32, last: u32) -> Result<Done, Refusal>
-        ensures said { result ≡ said (known self.old) (Line.Ends span first last) }
+    fn start<'a>(&mut self, span: u32, first: u32, last: u32) -> Result<Done, Refusal<'a>>
+        ensures said { result ≡ said (known self.old) (Ok (Line.Ends span first last)) }
         ensures kept { known self.new ≡ kept (known self.old) result }
     {
         if self.log.is_some() {
@@ -68,8 +70,8 @@ impl Notes {
         Ok(Done::Opened { span, first, last })
     }
 
-    fn take_in(&mut self, point: Point) -> Result<Done, Refusal>
-        ensures said { result ≡ said (known self.old) (Line.Answer point) }
+    fn take_in<'a>(&mut self, point: Point) -> Result<Done, Refusal<'a>>
+        ensures said { result ≡ said (known self.old) (Ok (Line.Answer point)) }
         ensures kept { known self.new ≡ kept (known self.old) result }
     {
         let Some(log) = &mut self.log else {
@@ -92,18 +94,26 @@ impl Notes {
     }
 }
 
-impl From<BadEnds> for Refusal {
+impl From<BadEnds> for Refusal<'_> {
     ghost from_gives = { λ bad refusal. refusal ≡ refusals.Ends bad };
 
-    fn from(bad: BadEnds) -> Refusal {
+    fn from(bad: BadEnds) -> Self {
         Refusal::Ends(bad)
     }
 }
 
-impl From<Misfit> for Refusal {
+impl From<Misfit> for Refusal<'_> {
     ghost from_gives = { λ misfit refusal. refusal ≡ refusals.Point misfit };
 
-    fn from(misfit: Misfit) -> Refusal {
+    fn from(misfit: Misfit) -> Self {
         Refusal::Point(misfit)
+    }
+}
+
+impl<'a> From<Fault<'a>> for Refusal<'a> {
+    ghost from_gives = { λ fault refusal. refusal ≡ refusals.Unclear fault };
+
+    fn from(fault: Fault<'a>) -> Self {
+        Refusal::Unclear(fault)
     }
 }

@@ -16,13 +16,14 @@ impl fmt::Display for Done {
     }
 }
 
-impl fmt::Display for Refusal {
+impl fmt::Display for Refusal<'_> {
     fn fmt<W: fmt::Write>(&self, f: &mut fmt::Formatter<W>) -> fmt::Result {
         match self {
             Refusal::Ends(bad) => write!(f, "{bad}"),
             Refusal::OpenedBefore => write!(f, "the span and the end values are known already"),
             Refusal::NotOpened => write!(f, "the span and the two end values come first"),
             Refusal::Point(misfit) => write!(f, "{misfit}"),
+            Refusal::Unclear(fault) => write!(f, "{fault}"),
         }
     }
 }
