@@ -1,5 +1,5 @@
 -- What a run on the diagonal comes to. Assumes nothing.
-use Rattle.std.proofs.Common.{◌≡◌, ℕ, ◌+◌, ◌-◌, ◌*◌, ◌^◌, ◌<◌, ◌≤◌, min, false, ltb, List, length, None, Ok, Err, Result, IsOk, rules, ap, ◌∙◌, subst, mul-le-mul_left, arith}
+use Rattle.std.proofs.Common.{◌≡◌, ℕ, ◌+◌, ◌-◌, ◌*◌, ◌^◌, ◌<◌, ◌≤◌, min, Bool, false, ltb, List, length, None, Ok, Err, Result, IsOk, rules, ap, ◌∙◌, subst, mul-le-mul_left, arith}
 use Rattle.std.proofs.lemmas.Nat.{mul-le}
 use Rattle.std.proofs.lemmas.Bool.{or_parts, ltb-false, le-ltb}
 use Rattle.denials.specs.declared.Denial.{Denial}
@@ -20,11 +20,10 @@ use Rattle.tables.proofs.LeastWidth.{least_le_square}
 use Rattle.tables.proofs.Limits.{width_is_gaps}
 use Rattle.tables.proofs.Runs.{lawful_asks_all}
 use Rattle.tables.proofs.Unknown.{span_of_log}
-use Rattle.readout.specs.declared.readouts.Readout.{Readout}
-use Rattle.readout.specs.Views.{view}
+use Rattle.readout.specs.Views.{View}
 use Rattle.bench.specs.declared.running.Ran.{Ran}
 use Rattle.bench.specs.declared.scoring.Widths.{Widths}
-use Rattle.bench.specs.Runs.{budget_denied, RanOn}
+use Rattle.bench.specs.Runs.{run_denied, RanOn}
 use Rattle.bench.specs.Scores.{score_denied, Fit, Scored}
 
 -- a budget that is accepted is below the span
@@ -54,15 +53,15 @@ module _ (plan : Plan) (lawful : Lawful plan) (N c n a b : ℕ) (d : Diagonal) (
   few : n < d.span
   few = omega (arith, fit.span, budget_below N n (omega (arith, fit.span, d.long)) fit.budget)
 
-  abbrev Gave : Ran × Readout → Type 0
-  Gave r = RanOn plan (diagonal d.rise) d.span n 0 (view r.1) r.0
+  module _ (awake : Bool) (v : View) (Q : Type 0) (out : Result Ran Denial) (decided : Decided told (run_denied awake d.span n) out (RanOn plan (diagonal d.rise) d.span n 0 v) Q) (r : Ran) (is : out ≡ Ok r) where
+    abbrev Gave : Ran → Type 0
+    Gave = RanOn plan (diagonal d.rise) d.span n 0 v
 
-  module _ (out : Result (Ran × Readout) Denial) (decided : Decided told (budget_denied d.span n) out Gave (Unit {0})) (r : Ran × Readout) (is : out ≡ Ok r) where
     abbrev end : List Point
-    end = (view r.1).points
+    end = v.points
 
     on : Gave r
-    on = promised told (budget_denied d.span n) r Gave (Unit {0}) (subst (λ o. Decided told (budget_denied d.span n) o Gave (Unit {0})) is decided)
+    on = promised told (run_denied awake d.span n) r Gave Q (subst (λ o. Decided told (run_denied awake d.span n) o Gave Q) is decided)
 
     asked_all_lem : Asked (diagonal d.rise) d.span n on.questions end
     asked_all_lem = lawful_asks_all plan lawful (diagonal d.rise) d.span n (λ i j _ le _. mul-le-mul_left d.rise le) few on.questions end on.run
@@ -71,7 +70,7 @@ module _ (plan : Plan) (lawful : Lawful plan) (N c n a b : ℕ) (d : Diagonal) (
     span_is = span_of_log d.span end asked_all_lem.is_log
 
     -- its limits are in order
-    pub in_order : r.0.low ≤ r.0.high
+    pub in_order : r.low ≤ r.high
     in_order = omega (arith, on.limits.low_is, on.limits.high_is, (width_is_gaps d.span end asked_all_lem.is_log).0)
 
     -- a table of its log goes into a row that is as long as the shorter one
@@ -86,7 +85,7 @@ module _ (plan : Plan) (lawful : Lawful plan) (N c n a b : ℕ) (d : Diagonal) (
 
     -- and it is scored by them
     pub scored :
-        (s : Widths) → s.width ≡ r.0.high - r.0.low → s.least ≡ d.rise * least_width d.span n →
+        (s : Widths) → s.width ≡ r.high - r.low → s.least ≡ d.rise * least_width d.span n →
         (low-old low-new high-old high-new : List ℕ) → low-new ≡ written (low_table end) d.span low-old → high-new ≡ written (high_table end) d.span high-old → (Q : Type 0) →
         Decided told (score_denied N c n a b) (Ok s) (Scored plan c N n low-old low-new high-old high-new) Q
     scored s wide least low-old low-new high-old high-new low_row high_row Q =

@@ -6,10 +6,12 @@ ghost use Rattle.tables.specs.Least.{least_width};
 ghost use Rattle.bench.specs.Guarantee.{Guarantee};
 ghost use Rattle.bench.specs.Scores.{score_denied, Fit, Scored};
 
-use super::running::read_out;
+use super::lines::Line;
+use super::running::run;
 use denials::Denial;
 use loggers::{Diagonal, Logger};
 use plans::Plan;
+use readout::Readout;
 use tables::least_width;
 
 // What a plan is scored by: the width it leaves on the diagonal, and the least width that any plan can leave there.
@@ -35,8 +37,11 @@ pub fn score<P: Plan>(
     ensures guarantee { Guarantee }
 {
     let diagonal = diagonal_for(span, rise, budget, low_table.len(), high_table.len())?;
+    // over a place of its own, since the one that `read_out` hands over would be copied
+    let mut line = Line::asleep();
+    let mut place = Readout::new();
     // the run's checks and those of the rows are among those passed
-    let (ran, place) = read_out(&diagonal, plan, budget).unwrap();
+    let ran = run(&diagonal, plan, budget, 0, &mut line, &mut place).unwrap();
     place.log().write_low(low_table).unwrap();
     place.log().write_high(high_table).unwrap();
     Ok(Widths {
