@@ -25,13 +25,18 @@ fn main(rt: HostRuntime) -> anyhow::Result<()> {
     let text = input.as_str();
     if arguments.is_empty() {
         let (first, text) = text.split_once('\n').unwrap_or((text, ""));
-        let words = first.split_whitespace().collect::<Vec<&str>>(rt.alloc())?;
+        // a job has three words, and the fourth tells that there are more
+        let words = first
+            .split_whitespace()
+            .take(4)
+            .collect::<Vec<&str>>(rt.alloc())?;
         return certify_text(&rt, words.as_slice(), Readings { text, first: 2 });
     }
     // an argument may have several words in it
     let words = arguments
         .iter()
         .flat_map(|argument| argument.as_str().split_whitespace())
+        .take(4)
         .collect::<Vec<&str>>(rt.alloc())?;
     certify_text(&rt, words.as_slice(), Readings { text, first: 1 })
 }
