@@ -30,9 +30,9 @@ pub(crate) fn print_reply(reply: Result<Option<Report>, Denial>, line: u64, out:
         Ok(None) => return 0,
         Ok(Some(r)) => {
             let numbers = [r.span as u64, r.asked as u64, r.low, r.high, r.high - r.low];
-            write_line(letter_of(r.way), &numbers, out)
+            write_line(letter_of(r.way), &numbers, out, 0)
         }
-        Err(denial) => write_line(b'?', &[line, denial.number() as u64], out),
+        Err(denial) => write_line(b'?', &[line, denial.number() as u64], out, 0),
     };
     written.unwrap()
 }

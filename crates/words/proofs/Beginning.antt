@@ -1,9 +1,9 @@
--- Rows with bytes written into their first places. Assumes nothing.
+-- Rows with bytes written into their first places, or from a place on. Assumes nothing.
 use Rattle.std.proofs.Common.{◌≡◌, ℕ, ◌+◌, ◌<◌, ◌≤◌, List, [], ◌∷◌, ◌++◌, ◌-◌, length, get_or, take, drop, set, sym, ap, ◌∙◌, append_assoc, append-nil, arith, length-append, length-drop}
 use Rattle.std.proofs.Math.Seq.{set-append_seam}
 use Rattle.std.proofs.lemmas.List.{take_at, drop_at, take_all, drop_all, drop_more, drop-drop, length-take-le, take_more}
 use borrow.Rule.Slice.PartMut.{put_mid}
-use Rattle.words.specs.Writing.{begun}
+use Rattle.words.specs.Writing.{begun, overwritten}
 
 -- a byte written after others
 pub begun_push : (bs row : List ℕ) (x : ℕ) → length bs < length row → set (begun bs row) (length bs) x ≡ begun (bs ++ (x ∷ [])) row
@@ -31,3 +31,10 @@ begun_after a b row out part at k is end fits rest made =
     let part_is : part ≡ b ++ drop (length b) (drop at row) = made ∙ ap (begun b) (take_all k (drop at out) long ∙ back) in
     rw (drop_all k (drop at out) long, front, part_is, append-nil, length-append a b, ← end)
     (ap (λ ys. a ++ (b ++ ys)) (drop-drop (length b) at row) ∙ sym (append_assoc a b (drop (at + length b) row)))
+
+-- bytes written into the first places of a row's rest are written from that place on
+pub begun_from : (bs row part : List ℕ) (at k : ℕ) → at ≤ length row → k ≡ length row - at → part ≡ begun bs (take k (drop at row)) → put_mid at k row part ≡ overwritten at bs row
+begun_from bs row part at k fits rest made =
+    let long : length (drop at row) ≤ k = omega (arith, length-drop at row) in
+    let part_is : part ≡ bs ++ drop (length bs) (drop at row) = made ∙ ap (begun bs) (take_all k (drop at row) long) in
+    rw (drop_all k (drop at row) long, part_is, append-nil) (ap (λ ys. take at row ++ (bs ++ ys)) (drop-drop (length bs) at row))

@@ -61,11 +61,11 @@ spaced_more ns row i to out part lt short room same inv made =
     )
 
 -- the whole line: its letter, its numbers and its end
-pub line_written : (c : ℕ) (ns row part : List ℕ) (to : ℕ) → has_room ns row ≡ true → to ≡ length (spaced ns) → part ≡ begun (spaced ns) (take (length (set row 0 c) - 1) (drop 1 (set row 0 c)))
+pub line_written : (c : ℕ) (ns row part : List ℕ) (to : ℕ) → has_room 0 ns row ≡ true → to ≡ length (spaced ns) → part ≡ begun (spaced ns) (take (length (set row 0 c) - 1) (drop 1 (set row 0 c)))
     → set (put_mid 1 (length (set row 0 c) - 1) (set row 0 c) part) (1 + to) 10 ≡ begun (line_bytes c ns) row
 line_written c ns row part to room end made =
-    let parts = and_parts (leb (17 * length ns + 2) (length row)) (all_short ns) room in
-    let fits = leb-true (17 * length ns + 2) (length row) parts.0 in
+    let parts = and_parts (leb (0 + (17 * length ns + 2)) (length row)) (all_short ns) room in
+    let fits = leb-true (0 + (17 * length ns + 2)) (length row) parts.0 in
     let few = length_spaced_le ns parts.1 in
     let all : put_mid 1 (length (set row 0 c) - 1) (set row 0 c) part ≡ begun (c ∷ spaced ns) row =
     begun_after (c ∷ []) (spaced ns) row (set row 0 c) part 1 _ (begun_push [] row c (omega arith)) refl (omega arith) refl made in

@@ -1,5 +1,9 @@
--- Printed lines, and a row that begins with them. Assumes nothing.
-use Rattle.std.specs.Prelude.{ℕ, ◌+◌, ◌*◌, ◌^◌, Bool, true, ◌&&◌, List, [], ◌∷◌, ◌++◌, length, drop, decimal, nat_le, nat_lt}
+-- Printed lines, and a row with bytes written into it. Assumes nothing.
+use Rattle.std.specs.Prelude.{ℕ, ◌+◌, ◌*◌, ◌^◌, Bool, true, ◌&&◌, List, [], ◌∷◌, ◌++◌, length, take, drop, decimal, nat_le, nat_lt}
+
+-- a row with these bytes written from the place `at` on, the rest kept
+abbrev pub overwritten : ℕ → List ℕ → List ℕ → List ℕ
+overwritten at bs row = take at row ++ (bs ++ drop (at + length bs) row)
 
 -- a row with these bytes written into its first places, the rest kept
 abbrev pub begun : List ℕ → List ℕ → List ℕ
@@ -19,6 +23,6 @@ abbrev pub all_short : List ℕ → Bool
 all_short [] = true
 all_short (n ∷ ns) = nat_lt n (10 ^ 16) && all_short ns
 
--- room for a printed line: 17 bytes for each number and two more; and each number has at most 16 digits
-abbrev pub has_room : List ℕ → List ℕ → Bool
-has_room ns row = nat_le (17 * length ns + 2) (length row) && all_short ns
+-- room for a printed line from the place `at` on: 17 bytes for each number and two more; and each number has at most 16 digits
+abbrev pub has_room : ℕ → List ℕ → List ℕ → Bool
+has_room at ns row = nat_le (at + (17 * length ns + 2)) (length row) && all_short ns

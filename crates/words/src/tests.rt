@@ -39,27 +39,23 @@ fn words_of_a_sheet(rt: HostRuntime) {
 #[test]
 fn line_is_written(rt: HostRuntime) {
     let mut row = [b'.'; 90];
-    assert!(rt; write_line(b'e', &[12, 3, 198, 270, 72], &mut row[1..]) == Some(18));
+    assert!(rt; write_line(b'e', &[12, 3, 198, 270, 72], &mut row, 1) == Some(19));
     assert!(rt; &row[0..20] == b".e 12 3 198 270 72\n.".as_slice());
 }
 
 #[test]
 fn longest_number_is_written(rt: HostRuntime) {
     let mut row = [b'.'; 19];
-    assert!(rt; write_line(b'?', &[10_000_000_000_000_000], &mut row) == None);
+    assert!(rt; write_line(b'?', &[10_000_000_000_000_000], &mut row, 0) == None);
     assert!(rt; &row[0..19] == b"...................".as_slice());
-    assert!(rt; write_line(b'?', &[9_999_999_999_999_999], &mut row) == Some(19));
+    assert!(rt; write_line(b'?', &[9_999_999_999_999_999], &mut row, 0) == Some(19));
     assert!(rt; &row[0..19] == b"? 9999999999999999\n".as_slice());
 }
 
 #[test]
 fn short_row_is_kept(rt: HostRuntime) {
     let mut row = [b'.'; 19];
-    assert!(rt; write_line(b'w', &[4], &mut row[1..]) == None);
-    assert!(rt;
-        row.get_mut(20..)
-            .and_then(|rest| write_line(b'w', &[4], rest))
-            == None
-    );
+    assert!(rt; write_line(b'w', &[4], &mut row, 1) == None);
+    assert!(rt; write_line(b'w', &[4], &mut row, 20) == None);
     assert!(rt; &row[0..19] == b"...................".as_slice());
 }

@@ -1,6 +1,6 @@
-// Printed lines, written into the first places of a row.
-ghost use Rattle.std.specs.Prelude.{◌≡◌, ◌*◌, ◌≤◌, true, length, if◌then◌else◌, Some, None};
-ghost use Rattle.words.specs.Writing.{begun, spaced, line_bytes, all_short, has_room};
+// Printed lines, written into a row.
+ghost use Rattle.std.specs.Prelude.{◌≡◌, ◌+◌, ◌*◌, ◌≤◌, true, length, if◌then◌else◌, Some, None};
+ghost use Rattle.words.specs.Writing.{overwritten, begun, spaced, line_bytes, all_short, has_room};
 
 use crate::digits::write_digits;
 
@@ -16,7 +16,7 @@ fn all_short(numbers: &[u64]) -> bool
 
 // Whether a row has room for a line of these numbers.
 fn has_room(numbers: &[u64], out: &[u8]) -> bool
-    ensures { result ≡ has_room numbers.now out.now }
+    ensures { result ≡ has_room 0 numbers.now out.now }
 {
     out.len() >= 2 && numbers.len() <= (out.len() - 2) / 17 && all_short(numbers)
 }
@@ -40,9 +40,9 @@ fn write_spaced(numbers: &[u64], out: &mut [u8]) -> usize
 
 // Writes a line into the first places of a row, and gives how many bytes it has;
 // where the row has no room for it, or a number has more than 16 digits, nothing is written.
-pub fn write_line(letter: u8, numbers: &[u64], out: &mut [u8]) -> Option<usize>
-    ensures end { result ≡ (if has_room numbers.now out.old then Some (length (line_bytes letter numbers.now)) else None) }
-    ensures row { out.new ≡ (if has_room numbers.now out.old then begun (line_bytes letter numbers.now) out.old else out.old) }
+fn write_first(letter: u8, numbers: &[u64], out: &mut [u8]) -> Option<usize>
+    ensures end { result ≡ (if has_room 0 numbers.now out.old then Some (length (line_bytes letter numbers.now)) else None) }
+    ensures row { out.new ≡ (if has_room 0 numbers.now out.old then begun (line_bytes letter numbers.now) out.old else out.old) }
 {
     if !has_room(numbers, out) {
         return None;
@@ -51,4 +51,17 @@ pub fn write_line(letter: u8, numbers: &[u64], out: &mut [u8]) -> Option<usize>
     let end = 1 + write_spaced(numbers, &mut out[1..]);
     out[end] = b'\n';
     Some(end + 1)
+}
+
+// Writes a line into a row from the place `at` on, and gives the place after it;
+// where the row has no room for it, or a number has more than 16 digits, nothing is written.
+pub fn write_line(letter: u8, numbers: &[u64], out: &mut [u8], at: usize) -> Option<usize>
+    ensures end { result ≡ (if has_room at numbers.now out.old then Some (at + length (line_bytes letter numbers.now)) else None) }
+    ensures row { out.new ≡ (if has_room at numbers.now out.old then overwritten at (line_bytes letter numbers.now) out.old else out.old) }
+{
+    if at > out.len() {
+        return None;
+    }
+    let count = write_first(letter, numbers, &mut out[at..])?;
+    Some(at + count)
 }
