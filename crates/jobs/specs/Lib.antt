@@ -1,4 +1,5 @@
 pub mod Lines
 pub mod Jobs
+pub mod Values
 pub mod Said
 pub mod Reading

@@ -1,13 +1,13 @@
-// What a line of a sheet can ask for. It cannot be copied, as the values that it keeps cannot.
-use arrayvec::ArrayVec;
+// What a line of a sheet can ask for.
+use super::values::Values;
 use plans::Way;
 
-#[derive(Clone, Drop)]
+#[derive(Clone, Copy)]
 pub enum Job {
     // set a diagonal of this span and rise
     Diagonal(u32, u32),
     // set a table of these values
-    Table(ArrayVec<u32, 64>),
+    Table(Values),
     // run a plan, made for so many questions, with as many
     Run(Way, u32),
 }

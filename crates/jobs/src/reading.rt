@@ -7,9 +7,10 @@ ghost use Rattle.jobs.specs.Jobs.{formed, job_of, numbers_of};
 ghost use Rattle.jobs.specs.Lines.{line_of};
 ghost use Rattle.jobs.specs.Reading.{letter_in, number_in, tail_words, ReadAs};
 ghost use Rattle.jobs.specs.Said.{said};
+ghost use Rattle.jobs.specs.Values.{listed};
 
 use super::jobs::Job;
-use arrayvec::ArrayVec;
+use super::values::Values;
 use plans::Way;
 use words::{Cursor, Word, number_of};
 
@@ -45,22 +46,24 @@ fn number_at(cursor: Cursor<'_>) -> Option<(u32, Cursor<'_>)>
 
 // The numbers from a place on, each after one space, to the line's end;
 // none where another word stands among them, or they are more than 64.
-fn numbers_from(start: Cursor) -> Option<ArrayVec<u32, 64>>
+fn numbers_from(start: Cursor) -> Option<Values>
     ensures { ReadAs (numbers_of (tail_words (rest start.entry))) result }
 {
-    let mut values: ArrayVec<u32, 64> = ArrayVec::new();
+    let mut values = Values::none();
     let mut cursor = start;
     while let [b' ', ..] = cursor.rest() {
         let (n, after) = number_at(cursor.skip(1))?;
-        values.try_push(n).ok()?;
+        if !values.put(n) {
+            return None;
+        }
         cursor = after;
     }
     Some(values)
 }
 
 // What a letter and the numbers after it ask for.
-fn form(letter: u8, values: ArrayVec<u32, 64>) -> Option<Job>
-    ensures { said result ≡ formed letter values.items }
+fn form(letter: u8, values: Values) -> Option<Job>
+    ensures { said result ≡ formed letter (listed values) }
 {
     match (letter, values.as_slice()) {
         (b'd', [span, rise]) => Some(Job::Diagonal(*span, *rise)),

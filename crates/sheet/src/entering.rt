@@ -7,14 +7,13 @@ ghost use Rattle.sheet.specs.Setting.{held};
 
 use super::reports::Report;
 use super::running::run_plan;
-use arrayvec::ArrayVec;
 use denials::Denial;
-use jobs::Job;
+use jobs::{Job, Values};
 use loggers::{Chosen, Diagonal, KeptTable};
 
 // Does what a line asks for: sets a logger, or runs a plan on the one that is set. A denied line leaves it.
 pub(crate) fn enter(
-    set: &mut Option<Chosen<ArrayVec<u32, 64>>>,
+    set: &mut Option<Chosen<Values>>,
     job: Option<Job>,
     line: u64,
 ) -> Result<Option<Report>, Denial>
