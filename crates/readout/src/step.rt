@@ -18,7 +18,8 @@ use tables::Point;
 
 impl Readout {
     // Does what the event asks, or says why not and changes nothing. One match on what is out and on the event:
-    // the project fixes this form.
+    // the project fixes this form. Inlined, so that a call of a known kind pays for its own arm alone.
+    #[inline(always)]
     pub fn step(&mut self, event: Event) -> Result<Outcome, Refusal>
         ensures moves { (view self.new, result) ≡ stepped (view self.old) event }
         ensures keeps { changes result ≡ false → self.new ≡ self.old }
