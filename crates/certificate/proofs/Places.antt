@@ -57,13 +57,13 @@ shown k m some =
     rw (wide, short, append-nil (decimal m))
 
 -- the text of a number with places: its sign, what stands before the point, and a hole of that width
-pub text_is : (k : ℕ) (z : ℤ) (mark : List ℕ) (n u : ℕ) → 0 < k → 10 ^ k < 2 ^ 64 → mark ≡ sign z → n ≡ unsigned_abs z → u ≡ 10 ^ k → mark ++ (decimal (n / u) ++ (46 ∷ styled_decimal (format_spec 32 0 4 k (2 ^ 64 - 1)) (n % u))) ≡ with_places k z
-text_is zero z mark n u some fits mark_is n_is u_is = absurd (omega arith)
-text_is (suc k) z mark n u some fits mark_is n_is u_is =
+pub text_is : (k : ℕ) (z : ℤ) (mark : List ℕ) (n u rest : ℕ) → 0 < k → 10 ^ k < 2 ^ 64 → mark ≡ sign z → n ≡ unsigned_abs z → u ≡ 10 ^ k → rest ≡ n % u → mark ++ (decimal (n / u) ++ (46 ∷ styled_decimal (format_spec 32 0 4 k (2 ^ 64 - 1)) rest)) ≡ with_places k z
+text_is zero z mark n u rest some fits mark_is n_is u_is rest_is = absurd (omega arith)
+text_is (suc k) z mark n u rest some fits mark_is n_is u_is rest_is =
     let m = unsigned_abs z % 10 ^ suc k in
     let less : m < 10 ^ suc k = omega (arith, ten_pos (suc k)) in
     let ends = shown (suc k) m some ∙ padded_in_digits k m less (omega arith) in
-    rw (mark_is, n_is, u_is) (ap (λ ds. sign z ++ (decimal (unsigned_abs z / 10 ^ suc k) ++ (46 ∷ ds))) ends)
+    rw (rest_is, mark_is, n_is, u_is) (ap (λ ds. sign z ++ (decimal (unsigned_abs z / 10 ^ suc k) ++ (46 ∷ ds))) ends)
 
 -- three places by their figures
 pub thousandths : (z : ℤ) → with_places 3 z ≡ volts z

@@ -1,10 +1,9 @@
 -- The ones of a strip, word by word. Assumes nothing.
-use Rattle.std.proofs.Common.{◌≡◌, ℕ, Fits, w64, sum_by, zero, suc, ◌+◌, ◌-◌, ◌*◌, ◌/◌, ◌%◌, ◌^◌, ◌<◌, ◌≤◌, List, [], ◌∷◌, ◌++◌, length, get_or, take, sym, refl, ap, ◌∙◌, mod-eq_of_lt, mod-lt, add-one, arith}
+use Rattle.std.proofs.Common.{◌≡◌, ℕ, zero, suc, ◌+◌, ◌-◌, ◌*◌, ◌/◌, ◌%◌, ◌^◌, ◌<◌, ◌≤◌, List, [], ◌∷◌, ◌++◌, length, get_or, take, sym, refl, ap, ◌∙◌, mod-eq_of_lt, mod-lt, add-one, arith}
 use lib.Bits.{bit_and}
 use lib.Count.{ones, ones_step, ones-ones}
 use lib.Pow.{field, mod-mod-pow}
 use lib.Seq.{take-append-add, take-append-le}
-use Rattle.std.proofs.lemmas.List.Sums.{sum_by_more}
 use Rattle.std.proofs.lemmas.Nat.{and_mask, one_shl, ones-le, pow_pos}
 use Rattle.strips.specs.Bits.{low_bits, bits_of, ones_among, strip_table}
 
@@ -66,16 +65,9 @@ whole_ones ws i t lt fits e =
     ap (λ n. n + ones (get_or ws i 0)) e ∙ ap (λ w. strip_table ws (64 * i) + ones w) (sym all)
     ∙ sym (next_ones ws i 64 lt (omega arith)) ∙ ap (strip_table ws) next
 
--- the ones of the first i words are those of their bits, at most 64 of each
-pub total_ones : (ws : List ℕ) → ((k : ℕ) → Fits w64 (get_or ws k 0)) → (i : ℕ) → i ≤ length ws → (sum_by ones (take i ws) ≡ strip_table ws (64 * i)) × (sum_by ones (take i ws) ≤ 64 * i)
-total_ones ws fit zero le = (refl, omega arith)
-total_ones ws fit (suc i) le =
-    let h = total_ones ws fit i (omega arith) in
-    let word = get_or ws i 0 in
-    let few : ones word ≤ 64 = ones-le 64 word (fit i).fits in
-    let one : suc i ≡ i + 1 = omega arith in
-    let more : sum_by ones (take (suc i) ws) ≡ sum_by ones (take i ws) + ones word = ap (λ n. sum_by ones (take n ws)) one ∙ sum_by_more ones ws i 0 (omega arith) in
-    (more ∙ whole_ones ws i _ (omega arith) (fit i).fits h.0 ∙ ap (λ n. strip_table ws (64 * n)) (sym one), omega (arith, h.1))
+-- a word has at most 64 ones
+pub few_ones : (ws : List ℕ) (i : ℕ) → get_or ws i 0 < 2 ^ 64 → ones (get_or ws i 0) ≤ 64
+few_ones ws i fits = ones-le 64 (get_or ws i 0) fits
 
 -- no more ones than the bits of the mask
 pub few_rest : (w r : ℕ) → r < 64 → ones (bit_and w ((1 * 2 ^ r) % 2 ^ 64 - 1)) ≤ r

@@ -1,6 +1,5 @@
 // The door strip: its making, and what it answers.
-ghost use Rattle.std.specs.Prelude.{◌≡◌, ◌*◌, ◌^◌, ◌<◌, ◌≤◌, [], ◌∷◌, length, sum_by};
-ghost use Rattle.std.specs.Int.Count.{ones};
+ghost use Rattle.std.specs.Prelude.{◌≡◌, ◌*◌, ◌≤◌, [], ◌∷◌, length};
 ghost use Rattle.denials.specs.Told.{told};
 ghost use Rattle.denials.specs.Checks.{Decided};
 ghost use Rattle.strips.specs.Bits.{strip_table, strip_never_falls};
@@ -11,22 +10,18 @@ use super::DoorStrip;
 use denials::Denial;
 use loggers::{Logger, check_span};
 
-// How many ones stand in these words.
-fn ones_of(words: &[u64]) -> u32
-    requires { sum_by ones words.now < 2 ^ 32 }
-    ensures { result ≡ sum_by ones words.now }
-{
-    words.iter().map(|word| word.count_ones()).sum()
-}
-
 // How many ones stand among the first x bits of a row of words: whole words and a masked last one, as the project fixes it.
+#[tactic(auto, using(crate::proofs::Counts::few_ones, crate::proofs::Counts::few_rest))]
 fn ones_before(words: &[u64], x: u32) -> u32
     requires { x ≤ 64 * length words.now }
     ensures { result ≡ strip_table words.now x }
 {
     let whole = (x / 64) as usize;
     let rest = x % 64;
-    let total = ones_of(&words[..whole]);
+    let mut total = 0;
+    for word in &words[..whole] {
+        total += word.count_ones();
+    }
     if rest == 0 {
         return total;
     }

@@ -1,24 +1,21 @@
-use Rattle.std.proofs.Common.{◌≡◌, ◌*◌, ◌/◌, ◌%◌, get_or, ◌∙◌, refl, ap, arith}
-use Rattle.strips.specs.Bits.{strip_table}
-use Rattle.strips.proofs.Counts.{total_ones, few_rest, rest_ones}
+use Rattle.std.proofs.Common.{◌≡◌, ◌/◌, get_or, take, ap, ◌<◌, arith}
+use lib.Count.{ones}
+use Rattle.std.proofs.lemmas.List.{get_or-take, length-take-le}
+use Rattle.std.proofs.lemmas.Nat.{ones-le}
+use Rattle.strips.proofs.Counts.{whole_ones, rest_ones}
 use Rattle.strips.proofs.strip.making.ones_before.Goals as goal
 
-pub ones_of-total-requires : goal.ones_of-total-requires
-ones_of-total-requires c =
-    omega (arith, (total_ones c.args.words.now c.type_inv.words (c.args.x / 64) (omega arith)).1)
-
-pub returns-then-rest-eq0 : goal.returns-then-rest-eq0
-returns-then-rest-eq0 c =
+pub loop-word-preserved : goal.loop-word-preserved
+loop-word-preserved c =
     let ws = c.args.words.now in
-    let place : 64 * (c.args.x / 64) ≡ c.args.x = omega arith in
-    c.ones_of-total.ensures ∙ (total_ones ws c.type_inv.words (c.args.x / 64) (omega arith)).0 ∙ ap (strip_table ws) place
-
-pub overflow_add-result : goal.overflow_add-result
-overflow_add-result c =
-    let ws = c.args.words.now in
-    omega (arith, (total_ones ws c.type_inv.words (c.args.x / 64) (omega arith)).1, few_rest (get_or ws (c.args.x / 64) 0) (c.args.x % 64) (omega arith))
+    let i = c.loop-word.word-index in
+    let lt : i < c.args.x / 64 = omega (arith, length-take-le (c.args.x / 64) ws (omega arith)) in
+    let same : get_or (take (c.args.x / 64) ws) i 0 ≡ get_or ws i 0 = get_or-take (c.args.x / 64) ws i 0 lt in
+    let fits = (c.type_inv.words i).fits in (
+      omega (arith, lt),
+      omega (arith, ap ones same, whole_ones ws i c.loop-word.total (omega (arith, lt)) fits c.loop-word.invariant.1),
+      omega (arith, ap ones same, ones-le 64 (get_or ws i 0) fits),
+    )
 
 pub returns : goal.returns
-returns c =
-    let ws = c.args.words.now in
-    rest_ones ws c.args.x _ _ refl (omega arith) (c.ones_of-total.ensures ∙ (total_ones ws c.type_inv.words (c.args.x / 64) (omega arith)).0)
+returns c = rest_ones c.args.words.now c.args.x c.loop-word.word-index c.loop-word.total (omega (arith, length-take-le (c.args.x / 64) c.args.words.now (omega arith))) (omega arith) c.loop-word.invariant.1
